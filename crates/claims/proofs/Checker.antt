@@ -1,0 +1,32 @@
+-- The checker's yes and what it stands for: where no rule is broken the call is its test, and the test is exact. Assumes nothing.
+use mathlib.Core.Path.{_≡_, sym, _∙_, ap}
+use mathlib.Core.Bool.{Bool, true}
+use mathlib.Core.Logic.{_↔_}
+use mathlib.Core.List.{List}
+use Rattle.table.specs.declared.table.Table.{Table}
+use Rattle.table.specs.declared.gate.Gate.{Gate}
+use Rattle.table.specs.declared.witness.Witness.{Witness}
+use Rattle.table.specs.Gate.{Realises, realises}
+use Rattle.table.specs.Witness.{countOf, Balances, balances}
+use Rattle.table.proofs.GateLaws.{realises-correct}
+use Rattle.table.proofs.WitnessLaws.{balances-correct}
+use Rattle.cell.specs.Refusal.{Rule, answered, checked, NoneBroken}
+use Rattle.cell.specs.Calls.{checkGateRules, checkGate, checkWitnessRules, checkWitness}
+use Rattle.cell.proofs.RefusalLaws.{answered-none-broken, none-broken-answered}
+
+-- a yes is a test that holds
+yes-holds : {P : Type 0} (rules : List Rule) (test : Bool) → NoneBroken rules → (test ≡ true ↔ P) → checked rules (answered test) ≡ answered true ↔ P
+yes-holds rules test kept exact =
+    (λ e. exact .0 (answered-none-broken rules test true e .1), λ p. none-broken-answered rules (answered test) kept ∙ ap answered (exact .1 p))
+
+-- a gate is accepted exactly when it realises the table
+pub gate-exact : (t : Table) (g : Gate) → NoneBroken (checkGateRules t g) → checkGate t g ≡ answered true ↔ Realises (g .weights) (g .threshold) t
+gate-exact t g kept = yes-holds (checkGateRules t g) (realises t g) kept (realises-correct t g)
+
+-- a witness is accepted exactly when it balances
+pub witness-exact : (t : Table) (w : Witness) → NoneBroken (checkWitnessRules t w) → checkWitness t w ≡ answered true ↔ Balances t (countOf (w .counts))
+witness-exact t w kept = yes-holds (checkWitnessRules t w) (balances t w) kept (balances-correct t w)
+
+-- a witness that was accepted balances
+pub accepted-balances : (t : Table) (w : Witness) → checkWitness t w ≡ answered true → Balances t (countOf (w .counts))
+accepted-balances t w e = balances-correct t w .0 (answered-none-broken (checkWitnessRules t w) (balances t w) true e .1)

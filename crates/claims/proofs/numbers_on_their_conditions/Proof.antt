@@ -1,0 +1,35 @@
+-- `claims::numbers_on_their_conditions`: the laws of rules, at each call's list. Assumes nothing.
+use mathlib.Core.Path.{_≡_, _∙_, ap}
+use mathlib.Core.List.{List, []}
+use Prim.Native.Nat.{ℕ}
+use Rattle.table.specs.Table.{value}
+use Rattle.table.specs.Gate.{gateTrue, realises}
+use Rattle.table.specs.Witness.{balances}
+use Rattle.table.specs.Inputs.{kindsOf}
+use Rattle.table.specs.Chow.{chowOf}
+use Rattle.cell.specs.Refusal.{Rule, Answered, answered, checked, NoneBroken}
+use Rattle.cell.specs.Calls.{tableRules, tableValueRules, gateValueRules, checkGateRules, checkWitnessRules}
+use Rattle.cell.proofs.RefusalLaws.{refused-first-broken, first-broken-refused, answered-none-broken, none-broken-answered}
+use Rattle.claims.specs.Claims.{ByRules}
+use Rattle.claims.proofs.numbers_on_their_conditions.Statement.{statement}
+use Rattle.claims.proofs.numbers_on_their_conditions.Tie as tie
+
+-- every list of rules, before any value
+by-rules : {A : Type 0} (rules : List Rule) (a : A) → ByRules rules a (checked rules (answered a))
+by-rules rules a = record {
+  number = λ n. (refused-first-broken rules a n, first-broken-refused rules (answered a) n);
+  value = λ c. (answered-none-broken rules a c, λ kept. none-broken-answered rules (answered a) (kept .0) ∙ ap answered (kept .1));
+}
+
+returns : tie.Need-returns
+returns c = record {
+  table-value = λ t r. by-rules (tableValueRules t r) (value t r);
+  gate-value = λ g r. by-rules (gateValueRules g r) (gateTrue (g .weights) (g .threshold) r);
+  check-gate = λ t g. by-rules (checkGateRules t g) (realises t g);
+  check-witness = λ t w. by-rules (checkWitnessRules t w) (balances t w);
+  input-kinds = λ t. by-rules (tableRules t []) (kindsOf t);
+  chow-parameters = λ t. by-rules (tableRules t []) (chowOf t);
+}
+
+pub numbers-on-their-conditions-spec : {M : Type 1} → statement M
+numbers-on-their-conditions-spec = tie.close (tie.spec returns)

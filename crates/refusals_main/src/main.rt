@@ -1,0 +1,33 @@
+// Runs the six checked calls on arguments at the edge of each refusal, on several refusals at once, of which the soonest in the call's
+// order is given, and on extreme contents. Prints what each call says.
+mod gates;
+mod make;
+mod rows;
+mod show;
+mod tables;
+mod witnesses;
+
+fn main() {
+    tables::inputs();
+    tables::spare_bits();
+    tables::spare_bytes();
+    tables::own_bytes();
+    tables::full();
+    rows::edges();
+    rows::extremes();
+    rows::table_value_order();
+    rows::gate_value_order();
+    gates::weights();
+    gates::thresholds();
+    gates::places();
+    gates::full();
+    gates::inputs();
+    gates::check_gate_order();
+    gates::verdicts();
+    witnesses::counts();
+    witnesses::own_rows();
+    witnesses::rows_past();
+    witnesses::full();
+    witnesses::check_witness_order();
+    witnesses::verdicts();
+}

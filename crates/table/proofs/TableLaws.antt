@@ -1,0 +1,63 @@
+-- Laws of tables: how many rows and bytes there are, the levels of a row's inputs, and the bits that must be 0. Assumes nothing.
+use mathlib.Core.Path.{_≡_, ap, subst}
+use mathlib.Core.Bool.{true, not}
+use mathlib.Core.List.{List}
+use Prim.Native.Nat.{ℕ, suc, _+_, _-_, _/_, _%_, _^_, _≤_, _<_}
+use native.Mathlib.Nat.{div-eq-of-lt, div-lt-iff-lt-mul, le-div-iff-mul-le, lt-of-lt-of-le, mod-lt, mul-le-mul-right}
+use native.Mathlib.Omega.{arith}
+use lib.ListN.{drop, getD}
+use lib.Pow.{pow-pos, pow-mono, pow-add, shr-lt, split}
+use borrow.Author.Tests.{lt-ltb, le-ltb}
+use Rattle.numbers.specs.Tests.{allAtMost}
+use Rattle.table.specs.Table.{rowsOf, level, byteCount, spareSet}
+
+-- eight inputs and fewer have at most 256 rows
+pub rows-le : {n : ℕ} → n ≤ 8 → 2 ^ n ≤ 256
+rows-le h = pow-mono h
+
+-- eight inputs and fewer have at most 32 bytes
+pub bytes-le : {n : ℕ} → n ≤ 8 → byteCount n ≤ 32
+bytes-le h = omega (arith, rows-le h)
+
+-- a level is 0 or 1
+pub level-lt : (r place : ℕ) → level 2 r place < 2
+level-lt r place = mod-lt (r / 2 ^ place) (omega arith)
+
+-- an input past those of a row has level 0
+pub level-past : {n : ℕ} (r place : ℕ) → r < 2 ^ n → n ≤ place → level 2 r place ≡ 0
+level-past r place h k = ap (λ (x : ℕ). x % 2) (div-eq-of-lt (lt-of-lt-of-le h (pow-mono k)))
+
+-- a row that lacks an input has a partner among the rows, which has it
+pub partner-below : (n r place : ℕ) → place < n → level 2 r place ≡ 0 → r < 2 ^ n → r + 2 ^ place < 2 ^ n
+partner-below n r place k e h = subst (λ (x : ℕ). r + 2 ^ place < 2 ^ x) split-n (within (n - suc place) (rw split-n h))
+  where
+    split-n : suc (n - suc place) + place ≡ n
+    split-n = omega arith
+
+    within : (d : ℕ) → r < 2 ^ (suc d + place) → r + 2 ^ place < 2 ^ (suc d + place)
+    within d b =
+        let high : r / 2 ^ place < 2 ^ suc d = shr-lt (suc d) place b in
+        let next : r / 2 ^ place + 2 ≤ 2 ^ suc d = omega arith in
+        omega (arith, pow-add 2 (suc d) place, split r place, mod-lt r (pow-pos place), mul-le-mul-right (2 ^ place) next)
+
+-- a shift that leaves no bits has passed all of them
+pub shift-none : (b k : ℕ) → b / 2 ^ k ≡ 0 → b < 2 ^ k
+shift-none b k e = omega (arith, div-lt-iff-lt-mul {x = b} {y = 1} (pow-pos k) .0 (omega arith))
+
+-- one that leaves some has not
+pub shift-some : (b k : ℕ) → (b / 2 ^ k ≡ 0 → ⊥) → 2 ^ k ≤ b
+shift-some b k h = omega (arith, le-div-iff-mul-le {x = 1} {y = b} (pow-pos k) .0 (omega (arith, h)))
+
+-- the rows of three inputs and more fill a byte
+pub byte-filled : {n b : ℕ} → 3 ≤ n → b < 256 → b < 2 ^ rowsOf n
+byte-filled h k = lt-of-lt-of-le k (pow-mono (pow-mono h))
+
+-- a first byte with a bit that is no row's is spare
+pub spare-first : (n : ℕ) (bytes : List ℕ) → 2 ^ rowsOf n ≤ getD bytes 0 0 → spareSet n bytes ≡ true
+unfolding spareSet
+spare-first n bytes h = rw (le-ltb (getD bytes 0 0) (2 ^ rowsOf n) h)
+
+-- where it has none, the bytes past the table decide
+pub spare-rest : (n : ℕ) (bytes : List ℕ) → getD bytes 0 0 < 2 ^ rowsOf n → spareSet n bytes ≡ not (allAtMost 0 (drop (byteCount n) bytes))
+unfolding spareSet
+spare-rest n bytes h = rw (lt-ltb (getD bytes 0 0) (2 ^ rowsOf n) h)

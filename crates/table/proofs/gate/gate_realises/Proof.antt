@@ -1,0 +1,97 @@
+-- `gate::gate_realises` meets its contract. The loop's invariant: the gate agrees with the table on each row below `row`. The measure is
+-- the number of rows left. Assumes nothing.
+use mathlib.Core.Path.{_≡_, sym, _∙_, ap₂}
+use mathlib.Core.Bool.{Bool, true, false, Bool·beq}
+use Prim.Native.Nat.{ℕ, _≤_, _<_, _-_}
+use native.Mathlib.Omega.{arith}
+use borrow.Author.Needs.{needs}
+use borrow.Author.Tests.{not-true, not-false}
+use Rattle.numbers.specs.Tests.{sameBool, allBelow}
+use Rattle.numbers.proofs.TestLaws.{same-bool-beq, all-below-zero, all-below-more, all-below-fails}
+use Rattle.table.specs.declared.table.Table.{Table}
+use Rattle.table.specs.declared.gate.Gate.{Gate}
+use Rattle.table.specs.Table.{rows, value}
+use Rattle.table.specs.Gate.{gateTrue, realises}
+use Rattle.table.proofs.TableLaws.{rows-le}
+use Rattle.table.proofs.gate.gate_realises.Statement.{statement}
+use Rattle.table.proofs.gate.gate_realises.Tie as tie
+
+-- whether gate and table agree on a row
+abbrev agrees : Table → Gate → ℕ → Bool
+agrees table gate row = sameBool (gateTrue (gate .weights) (gate .threshold) row) (value table row)
+
+-- where they differ on a row, the gate does not realise the table
+realises-fails : (t : Table) (g : Gate) (r : ℕ) → r < rows t → agrees t g r ≡ false → realises t g ≡ false
+unfolding realises
+realises-fails t g r h e = all-below-fails (rows t) (agrees t g) r h e
+
+-- where they agree on every row, it does
+realises-all : (t : Table) (g : Gate) → allBelow (rows t) (agrees t g) ≡ true → realises t g ≡ true
+unfolding realises
+realises-all t g e = e
+
+abbrev Inv-loop : tie.InvT-loop
+Inv-loop table gate rows row₀ row = (row ≤ rows) × (allBelow row (agrees table gate) ≡ true)
+
+abbrev μ-loop : tie.MeasureT-loop
+μ-loop table gate rows row₀ row = rows - row
+
+row-count-requires : tie.Need-row-count-requires Inv-loop μ-loop
+row-count-requires c κs = search needs
+
+loop-holds : tie.Need-loop-holds Inv-loop μ-loop
+loop-holds c = (omega arith, all-below-zero _)
+
+gate-true-requires : tie.Need-gate-true-requires Inv-loop μ-loop
+gate-true-requires c κs = omega (arith, c .before .before .row-count .ensures, rows-le (c .before .before .before .pre))
+
+row-value-requires : tie.Need-row-value-requires Inv-loop μ-loop
+row-value-requires c κs = gate-true-requires (c .before) κs
+
+-- the test that the code makes, of the results of the two calls
+tested : (c : tie.After-row-value Inv-loop μ-loop)
+    → let head = c .before .before .before in
+    let start = head .before .before in
+    agrees (start .args .table) (start .args .gate) (head .loop .row) ≡ Bool·beq (c .before .gate-true .result) (c .row-value .result)
+tested c =
+    sym
+    (same-bool-beq (c .before .gate-true .result) (c .row-value .result)
+    ∙ ap₂ sameBool (c .before .gate-true .ensures) (c .row-value .ensures))
+
+returns : tie.Need-returns Inv-loop μ-loop
+returns c =
+    let head = c .before .before .before .before in
+    let below : head .loop .row < rows (head .before .before .args .table) = omega (arith, head .before .row-count .ensures) in
+    sym (realises-fails _ _ _ below (tested (c .before) ∙ not-true _ (c .if1 .taken)))
+
+add-row : tie.Need-add-row Inv-loop μ-loop
+add-row c = search needs
+
+loop-less : tie.Need-loop-less Inv-loop μ-loop
+loop-less c = search needs
+
+loop-again : tie.Need-loop-again Inv-loop μ-loop
+loop-again c =
+    let head = c .before .before .before .before in
+    (omega arith, all-below-more (head .loop .row) _ (head .loop .inv .1) (tested (c .before) ∙ not-false _ (c .if1 .left)))
+
+returns-2 : tie.Need-returns-2 Inv-loop μ-loop
+returns-2 c =
+    let end : c .before .loop .row ≡ rows (c .before .before .before .args .table) = omega (arith, c .before .before .row-count .ensures) in
+    sym (realises-all _ _ (rw end at (c .before .loop .inv .1)))
+
+pub gate-realises-spec : {M : Type 1} → statement M
+gate-realises-spec =
+    tie.close
+    (tie.spec
+    Inv-loop
+    μ-loop
+    row-count-requires
+    loop-holds
+    gate-true-requires
+    row-value-requires
+    returns
+    add-row
+    loop-less
+    loop-again
+    returns-2)

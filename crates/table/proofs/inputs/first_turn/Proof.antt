@@ -1,0 +1,81 @@
+-- `inputs::first_turn` meets its contract. The loop's invariant: no row below `row` turns. The measure is what is left of the rows.
+-- Assumes nothing.
+use mathlib.Core.Path.{_≡_, sym, _∙_, ap}
+use mathlib.Core.Bool.{false}
+use Prim.Native.Nat.{ℕ, _-_, _≤_, _<_}
+use native.Mathlib.Omega.{arith}
+use borrow.Author.Count.{below-none, below-more}
+use borrow.Author.Needs.{needs}
+use Rattle.numbers.proofs.FirstLaws.{first-at, first-fails}
+use Rattle.table.specs.Table.{rows}
+use Rattle.table.specs.Inputs.{turnsAt, found}
+use Rattle.table.proofs.TableLaws.{rows-le}
+use Rattle.table.proofs.InputLaws.{first-turn-search}
+use Rattle.table.proofs.inputs.first_turn.Statement.{statement}
+use Rattle.table.proofs.inputs.first_turn.Tie as tie
+
+abbrev Inv-loop : tie.InvT-loop
+Inv-loop table to place rows row₀ row = (row ≤ rows) × (rows ≤ 256) × ((r : ℕ) → r < row → turnsAt table to place r ≡ false)
+
+abbrev μ-loop : tie.MeasureT-loop
+μ-loop table to place rows row₀ row = rows - row
+
+row-count-requires : tie.Need-row-count-requires Inv-loop μ-loop
+row-count-requires c κs = search needs
+
+loop-holds : tie.Need-loop-holds Inv-loop μ-loop
+loop-holds c = (omega arith, omega (arith, rows-le (c .before .pre .0)), below-none _)
+
+turns-at-requires : tie.Need-turns-at-requires Inv-loop μ-loop
+turns-at-requires c κs = search needs
+
+returns : tie.Need-returns Inv-loop μ-loop
+returns c =
+    let at-head = c .before .before .before .loop in
+    let a = c .before .before .before .before .before .args in
+    let turns = turnsAt (a .table) (a .to) (a .place) in
+    sym
+    (ap found
+    (first-turn-search (a .table) (a .to) (a .place)
+    ∙ first-at turns (rows (a .table)) 0 (at-head .row)
+    record {
+      start = omega arith;
+      inside = omega arith;
+      passes = sym (c .before .turns-at .ensures) ∙ c .if1 .taken;
+      before = λ r l h. at-head .inv .2 r h;
+    }))
+
+add-row : tie.Need-add-row Inv-loop μ-loop
+add-row c = omega arith
+
+loop-less : tie.Need-loop-less Inv-loop μ-loop
+loop-less c = omega arith
+
+loop-again : tie.Need-loop-again Inv-loop μ-loop
+loop-again c =
+    let at-head = c .before .before .before .loop in
+    (omega arith, at-head .inv .1, below-more _ _ (at-head .inv .2) (sym (c .before .turns-at .ensures) ∙ c .if1 .left))
+
+returns-2 : tie.Need-returns-2 Inv-loop μ-loop
+returns-2 c =
+    let a = c .before .before .before .args in
+    let turns = turnsAt (a .table) (a .to) (a .place) in
+    sym
+    (ap found
+    (first-turn-search (a .table) (a .to) (a .place)
+    ∙ first-fails turns (rows (a .table)) 0 (λ r l h. c .before .loop .inv .2 r (omega arith))))
+
+pub first-turn-spec : {M : Type 1} → statement M
+first-turn-spec =
+    tie.close
+    (tie.spec
+    Inv-loop
+    μ-loop
+    row-count-requires
+    loop-holds
+    turns-at-requires
+    returns
+    add-row
+    loop-less
+    loop-again
+    returns-2)

@@ -1,0 +1,68 @@
+-- `witness::counts_within` meets its contract. The loop's invariant: from `row` on the counts are within the limit exactly if they are
+-- from `from` on. The measure is what is left of the 256 rows. Assumes nothing.
+use mathlib.Core.Path.{_≡_, sym, _∙_}
+use Prim.Native.Nat.{_-_, _≤_}
+use native.Mathlib.Omega.{arith}
+use borrow.Author.Needs.{needs}
+use lib.ListN.{length, drop}
+use Rattle.numbers.specs.Tests.{allAtMost}
+use Rattle.numbers.proofs.TestLaws.{all-at-most-end, all-at-most-next, all-at-most-fails}
+use Rattle.table.proofs.witness.counts_within.Statement.{statement}
+use Rattle.table.proofs.witness.counts_within.Tie as tie
+
+abbrev Inv-loop : tie.InvT-loop
+Inv-loop from limit counts row₀ row = (row ≤ 256) × (allAtMost limit (drop row counts) ≡ allAtMost limit (drop from counts))
+
+abbrev μ-loop : tie.MeasureT-loop
+μ-loop from limit counts row₀ row = 256 - row
+
+loop-holds : tie.Need-loop-holds Inv-loop μ-loop
+loop-holds c = search needs
+
+mul-if1 : tie.Need-mul-if1 Inv-loop μ-loop
+mul-if1 c = omega arith
+
+array-read-if1 : tie.Need-array-read-if1 Inv-loop μ-loop
+array-read-if1 c = omega arith
+
+returns : tie.Need-returns Inv-loop μ-loop
+returns c =
+    let a = c .before .before .before .args in
+    let at-test = c .before .before .loop in
+    let n : length (a .t1) ≡ 256 = search needs in
+    sym (all-at-most-fails (a .limit) (a .t1) (at-test .row) (omega arith) (c .if1 .taken)) ∙ at-test .inv .1
+
+add-row : tie.Need-add-row Inv-loop μ-loop
+add-row c = omega arith
+
+loop-less : tie.Need-loop-less Inv-loop μ-loop
+loop-less c = omega arith
+
+loop-again : tie.Need-loop-again Inv-loop μ-loop
+loop-again c =
+    let a = c .before .before .before .args in
+    let at-test = c .before .before .loop in
+    let n : length (a .t1) ≡ 256 = search needs in
+    (omega arith, all-at-most-next (a .limit) (a .t1) (at-test .row) (omega arith) (c .if1 .left) ∙ at-test .inv .1)
+
+returns-2 : tie.Need-returns-2 Inv-loop μ-loop
+returns-2 c =
+    let a = c .before .before .args in
+    let at-end = c .before .loop in
+    let n : length (a .t1) ≡ 256 = search needs in
+    sym (all-at-most-end (a .limit) (a .t1) (at-end .row) (omega arith)) ∙ at-end .inv .1
+
+pub counts-within-spec : {M : Type 1} → statement M
+counts-within-spec =
+    tie.close
+    (tie.spec
+    Inv-loop
+    μ-loop
+    loop-holds
+    mul-if1
+    array-read-if1
+    returns
+    add-row
+    loop-less
+    loop-again
+    returns-2)

@@ -1,0 +1,54 @@
+-- A gate: its distance and its value on a row, when it realises a table, and the ranges of its numbers (document 01, "Table, gate,
+-- witness"). Weights and T are integers of any size here; `Gate` is the record that code holds. Definitions only. Assumes nothing.
+use mathlib.Core.Path.{_≡_}
+use mathlib.Core.Bool.{Bool, not, cond, _&&_, _||_}
+use mathlib.Core.List.{List}
+use Prim.Native.Nat.{ℕ, _<_}
+use lib.Dec.{ltb}
+use lib.ListN.{getD}
+use lib.IntN.{ℤ, pos, negℤ, _-ℤ_}
+use lib.Signed.{leZ}
+use Rattle.numbers.specs.Sum.{weightedSum}
+use Rattle.numbers.specs.Tests.{sameBool, allBelow}
+use Rattle.table.specs.declared.table.Table.{Table}
+use Rattle.table.specs.declared.gate.Gate.{Gate}
+use Rattle.table.specs.Table.{rows, level, value}
+
+-- the distance d of row r: the sum of the weights of its true inputs, less T
+unfoldable pub distance : List ℤ → ℤ → ℕ → ℤ
+unfolding weightedSum
+distance ws th r = weightedSum ws (level 2 r) -ℤ th
+
+-- the gate rule (source document 000, equation 1): true on a row when the sum is at least T
+abbrev pub gateTrue : List ℤ → ℤ → ℕ → Bool
+gateTrue ws th r = leZ (pos 0) (distance ws th r)
+
+-- integer weights and a T, of any size, that agree with the table on every row
+abbrev pub Realises : List ℤ → ℤ → Table → Type 0
+Realises ws th t = (r : ℕ) → r < rows t → gateTrue ws th r ≡ value t r
+
+-- the test that a gate agrees with the table on every row
+unfoldable pub realises : Table → Gate → Bool
+unfolding allBelow distance
+realises t g = allBelow (rows t) (λ r. sameBool (gateTrue (g .weights) (g .threshold) r) (value t r))
+
+-- weights and T lie within ±1,000,000
+abbrev pub weightLimit : ℕ
+weightLimit = 1000000
+
+-- z lies within ±limit
+abbrev pub within : ℕ → ℤ → Bool
+within limit z = leZ (negℤ (pos limit)) z && leZ z (pos limit)
+
+-- the most that a place may hold where n places have a limit: places past n hold 0
+abbrev pub placeLimit : (limit n place : ℕ) → ℕ
+placeLimit limit n place = cond (ltb place n) limit 0
+
+-- the weights of n inputs and T lie within ±limit, and the places past n hold 0
+unfoldable pub inRange : (limit n : ℕ) → List ℤ → ℤ → Bool
+unfolding allBelow
+inRange limit n ws th = within limit th && allBelow 8 (λ place. within (placeLimit limit n place) (getD ws place (pos 0)))
+
+-- refusal 7: a weight or T beyond its range, or a place past n not 0
+abbrev pub beyond : Gate → Bool
+beyond g = not (inRange weightLimit (g .n) (g .weights) (g .threshold))

@@ -1,0 +1,5 @@
+pub mod Table
+pub mod Gate
+pub mod Witness
+pub mod Inputs
+pub mod Chow

@@ -1,0 +1,42 @@
+-- A truth table: its rows, its value on a row, and the bits that must be 0 (document 01, "Table, gate, witness").
+-- Definitions only. Assumes nothing.
+use mathlib.Core.Bool.{Bool, not, _||_}
+use mathlib.Core.List.{List}
+use Prim.Native.Nat.{ℕ, _+_, _/_, _%_, _^_}
+use lib.Dec.{eqb, ltb}
+use lib.ListN.{getD, drop}
+use Rattle.numbers.specs.Tests.{allAtMost}
+use Rattle.table.specs.declared.table.Table.{Table}
+
+-- the most inputs of a table
+abbrev pub inputLimit : ℕ
+inputLimit = 8
+
+-- the number of rows of n inputs
+abbrev pub rowsOf : ℕ → ℕ
+rowsOf n = 2 ^ n
+
+abbrev pub rows : Table → ℕ
+rows t = rowsOf (t .n)
+
+-- the level of a place (input i stands at place i − 1) in a row: a digit of the row's number, lowest first. In base 2 it is 1 where
+-- the input is true
+abbrev pub level : (base row place : ℕ) → ℕ
+level base row place = row / base ^ place % base
+
+-- row r's bit: bit r mod 8 of byte r div 8, lowest bit first
+unfoldable pub bitAt : List ℕ → ℕ → Bool
+bitAt bytes r = eqb (getD bytes (r / 8) 0 / 2 ^ (r % 8) % 2) 1
+
+-- the table's value on row r
+abbrev pub value : Table → ℕ → Bool
+value t r = bitAt (t .bytes) r
+
+-- the bytes of a table of n inputs
+abbrev pub byteCount : ℕ → ℕ
+byteCount n = (rowsOf n + 7) / 8
+
+-- refusal 3: a spare bit of the first byte is set (three inputs and more have none), or a byte past the table's length is not 0
+unfoldable pub spareSet : ℕ → List ℕ → Bool
+unfolding allAtMost
+spareSet n bytes = not (ltb (getD bytes 0 0) (2 ^ rowsOf n)) || not (allAtMost 0 (drop (byteCount n) bytes))

@@ -1,0 +1,117 @@
+// The kinds of a table's inputs.
+use crate::table::Table;
+use crate::table::row_count;
+use crate::table::row_value;
+ghost use mathlib.Core.Path.{_≡_};
+ghost use Prim.Native.Nat.{_≤_, _<_};
+ghost use Rattle.table.specs.Inputs.{turnsAt, firstTurn, found, isRow, kindBy, kindAt, kindsOf};
+
+// What making an input true does to the table: nothing, only false to true, only true to false, or both.
+pub enum InputKind {
+    Idle,
+    Rising,
+    Falling,
+    Binate,
+}
+
+// The kind of the input at one place.
+pub struct Place {
+    pub kind: InputKind,
+}
+
+// The row that a search found.
+pub enum Found {
+    Row(usize),
+    Nowhere,
+}
+
+// Whether making the place's input true in a row without it turns the value to `to`.
+fn turns_at(table: Table, to: bool, place: usize, row: usize) -> bool
+    requires { ⌜ (place < 8) × (row < 256) ⌝ }
+    ensures { λ r. ⌜ r ≡ turnsAt table to place row ⌝ }
+{
+    if (row >> place) % 2 == 1 {
+        return false;
+    }
+    let partner = row + (1usize << place);
+    if row_value(table, row) == to {
+        return false;
+    }
+    row_value(table, partner) == to
+}
+
+// Returns the lowest row in which the place's input turns the value to `to`.
+pub fn first_turn(table: Table, to: bool, place: usize) -> Found
+    requires { ⌜ (table .n ≤ 8) × (place < 8) ⌝ }
+    ensures { λ r. ⌜ r ≡ found (firstTurn table to place) ⌝ }
+{
+    let rows = row_count(table.n);
+    let mut row: usize = 0;
+    while row < rows {
+        if turns_at(table, to, place, row) {
+            return Found::Row(row);
+        }
+        row = row + 1;
+    }
+    Found::Nowhere
+}
+
+// Whether a search found a row.
+pub fn is_row(answer: Found) -> bool
+    ensures { λ r. ⌜ r ≡ isRow answer ⌝ }
+{
+    match answer {
+        Found::Row(_) => true,
+        Found::Nowhere => false,
+    }
+}
+
+// Returns the kind by whether the input rises somewhere and whether it falls somewhere.
+fn kind_by(rises: bool, falls: bool) -> InputKind
+    ensures { λ r. ⌜ r ≡ kindBy rises falls ⌝ }
+{
+    if rises {
+        if falls {
+            InputKind::Binate
+        } else {
+            InputKind::Rising
+        }
+    } else {
+        if falls {
+            InputKind::Falling
+        } else {
+            InputKind::Idle
+        }
+    }
+}
+
+// Returns the kind of the input at a place.
+pub fn kind_at(table: Table, place: usize) -> InputKind
+    requires { ⌜ (table .n ≤ 8) × (place < 8) ⌝ }
+    ensures { λ r. ⌜ r ≡ kindAt table place ⌝ }
+{
+    if (table.n as usize) <= place {
+        return InputKind::Idle;
+    }
+    let rises = is_row(first_turn(table, true, place));
+    let falls = is_row(first_turn(table, false, place));
+    kind_by(rises, falls)
+}
+
+// Returns the kinds of all eight places.
+pub fn all_kinds(table: Table) -> [Place; 8]
+    requires { ⌜ table .n ≤ 8 ⌝ }
+    ensures { λ r. ⌜ r ≡ kindsOf table ⌝ }
+{
+    let mut places = [Place {
+        kind: InputKind::Idle,
+    }; 8];
+    let mut place: usize = 0;
+    while place < 8 {
+        places[place] = Place {
+            kind: kind_at(table, place),
+        };
+        place = place + 1;
+    }
+    places
+}

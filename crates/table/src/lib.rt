@@ -1,0 +1,7 @@
+// Truth tables, gates, witnesses and inputs, row by row. The functions here ask for a table that keeps its format: the
+// calls that take anything stand in the crates above.
+pub mod chow;
+pub mod gate;
+pub mod inputs;
+pub mod table;
+pub mod witness;
