@@ -2,7 +2,6 @@
 use table::table::Table;
 use table::table::spare_set;
 ghost use mathlib.Core.Path.{_≡_};
-ghost use mathlib.Core.Bool.{Bool};
 ghost use Rattle.cell.specs.Answers.{answerOf, status};
 ghost use Rattle.cell.specs.Calls.{tableChecked};
 

@@ -1,1 +1,4 @@
+pub mod Rules
 pub mod Checker
+pub mod CarryOn
+pub mod Shown

@@ -1,5 +1,7 @@
 // The claims, a function for each: its contract is the statement, and its body does nothing. So a claim without a proof fails the
 // check, and a check prints a line for each.
+ghost use Rattle.theory.specs.Cases.{MarkedCases};
+ghost use Rattle.claims.specs.Jobs.{JobNumbersOnTheirConditions, SoundnessIsKept, ShownIsRight, CarryOnIsTheMachine, CorrectionsAreBounded, WhatFitsIsFound};
 ghost use Rattle.claims.specs.Claims.{NumbersOnTheirConditions, CheckerIsExact, WitnessExcludes, CheckedWitnessExcludes};
 
 // Demand 1: a call gives a number exactly on its condition, and the earlier one in its order wins.
@@ -20,4 +22,39 @@ pub fn witness_excludes()
 // Demand 2: so after a yes to a witness there is no gate.
 pub fn checked_witness_excludes()
     ensures { λ _. ⌜ CheckedWitnessExcludes ⌝ }
+{}
+
+// Demand 1: the calls on jobs give a number exactly on its condition, and the earlier one in their order wins.
+pub fn job_numbers_on_their_conditions()
+    ensures { λ _. ⌜ JobNumbersOnTheirConditions ⌝ }
+{}
+
+// Document 01, "A sound job": the test is exact, and every job that the machine reaches is sound.
+pub fn soundness_is_kept()
+    ensures { λ _. ⌜ SoundnessIsKept ⌝ }
+{}
+
+// Demand 2: what a job shows is right, whoever made the job.
+pub fn shown_is_right()
+    ensures { λ _. ⌜ ShownIsRight ⌝ }
+{}
+
+// Demand 3, call by call: carry-on is the machine.
+pub fn carry_on_is_the_machine()
+    ensures { λ _. ⌜ CarryOnIsTheMachine ⌝ }
+{}
+
+// Demand 3: the bound on K, and the bound on the squares of v.
+pub fn corrections_are_bounded()
+    ensures { λ _. ⌜ CorrectionsAreBounded ⌝ }
+{}
+
+// Beyond the demands: a function that fits is found.
+pub fn what_fits_is_found()
+    ensures { λ _. ⌜ WhatFitsIsFound ⌝ }
+{}
+
+// The marked cases of document 01, m1 to m10.
+pub fn marked_cases()
+    ensures { λ _. ⌜ MarkedCases ⌝ }
 {}

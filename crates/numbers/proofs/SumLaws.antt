@@ -1,9 +1,11 @@
 -- Laws of the sums that the definitions are made of: `sumBelow` over the numbers below m, `sumZ`, its like for integers, and
 -- `weightedSum`, which is linear in the levels, so that sums of weighted sums change places with it. Assumes nothing.
 use mathlib.Core.Path.{_≡_, refl, sym, _∙_, ap, ap₂}
+use mathlib.Core.Logic.{_≢_}
 use mathlib.Core.List.{List, [], _∷_}
 use Prim.Native.Nat.{ℕ, zero, suc, _+_, _*_, _<_, _≤_}
 use native.Mathlib.Nat.{mul-le-mul, mul-zero}
+use native.Mathlib.Decide.{ℕ-discrete}
 use native.Mathlib.Omega.{arith}
 use lib.ListN.{length, getD, take}
 use lib.IntN.{ℤ, pos, _+ℤ_, _*ℤ_, +ℤ-idl, +ℤ-idr, +ℤ-assoc, *ℤ-comm, *ℤ-zero, zero-*ℤ}
@@ -28,6 +30,33 @@ sum-below-suc m f = refl
 pub sum-below-ext : (m : ℕ) (f g : ℕ → ℕ) → ((r : ℕ) → r < m → f r ≡ g r) → sumBelow m f ≡ sumBelow m g
 sum-below-ext zero f g e = sum-below-zero f ∙ sym (sum-below-zero g)
 sum-below-ext (suc m) f g e = rw (sum-below-suc m f, sum-below-suc m g, sum-below-ext m f g (λ r h. e r (omega arith)), e m (omega arith))
+
+-- a term is at most the sum that it is a term of
+pub sum-below-term : (m : ℕ) (f : ℕ → ℕ) (r : ℕ) → r < m → f r ≤ sumBelow m f
+sum-below-term zero f r h = absurd (omega arith)
+sum-below-term (suc m) f r h = by (ℕ-discrete r m) (λ l. sum-below-term m f r l)
+  where
+    by : Dec (r ≡ m) → (r < m → f r ≤ sumBelow m f) → f r ≤ sumBelow (suc m) f
+    by (yes e) below = omega (arith, sum-below-suc m f, ap f e)
+    by (no n) below = omega (arith, sum-below-suc m f, below (omega arith))
+
+-- a sum of which the term at r is d more
+pub sum-below-more : (m : ℕ) (f g : ℕ → ℕ) (r d : ℕ) → r < m → g r ≡ f r + d → ((q : ℕ) → q ≢ r → g q ≡ f q)
+    → sumBelow m g ≡ sumBelow m f + d
+sum-below-more zero f g r d h here others = absurd (omega arith)
+sum-below-more (suc m) f g r d h here others = by (ℕ-discrete m r) (λ l. sum-below-more m f g r d l here others)
+  where
+    by : Dec (m ≡ r) → (r < m → sumBelow m g ≡ sumBelow m f + d) → sumBelow (suc m) g ≡ sumBelow (suc m) f + d
+    by (yes e) below =
+        omega (
+          arith,
+          sum-below-suc m f,
+          sum-below-suc m g,
+          ap f e,
+          ap g e,
+          sum-below-ext m g f (λ q l. others q (λ same. omega arith)),
+        )
+    by (no n) below = omega (arith, sum-below-suc m f, sum-below-suc m g, below (omega arith), others m n)
 
 -- terms that are sums
 pub sum-below-add : (m : ℕ) (f g : ℕ → ℕ) → sumBelow m (λ r. f r + g r) ≡ sumBelow m f + sumBelow m g

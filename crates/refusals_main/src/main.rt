@@ -11,7 +11,6 @@ fn main() {
     tables::inputs();
     tables::spare_bits();
     tables::spare_bytes();
-    tables::own_bytes();
     tables::full();
     rows::edges();
     rows::extremes();
@@ -25,8 +24,7 @@ fn main() {
     gates::check_gate_order();
     gates::verdicts();
     witnesses::counts();
-    witnesses::own_rows();
-    witnesses::rows_past();
+    witnesses::rows();
     witnesses::full();
     witnesses::check_witness_order();
     witnesses::verdicts();

@@ -31,10 +31,9 @@ pub fn spare_bits() {
     one(2, 0, 8);
     one(2, 0, 16);
     one(2, 0, 128);
-    one(3, 0, 128);
 }
 
-// For each n the first byte past the length, with its lowest bit, and the last byte, with its highest.
+// For each n the last byte of the length, where no bit is spare, the first byte past it, and the last of the array.
 pub fn spare_bytes() {
     one(0, 1, 1);
     one(0, 31, 128);
@@ -42,30 +41,26 @@ pub fn spare_bytes() {
     one(1, 31, 128);
     one(2, 1, 1);
     one(2, 31, 128);
+    one(3, 0, 128);
     one(3, 1, 1);
     one(3, 31, 128);
+    one(4, 1, 128);
     one(4, 2, 1);
     one(4, 31, 128);
+    one(5, 3, 128);
     one(5, 4, 1);
     one(5, 31, 128);
+    one(6, 7, 128);
     one(6, 8, 1);
     one(6, 31, 128);
+    one(7, 15, 128);
     one(7, 16, 1);
     one(7, 31, 128);
-}
-
-// The last byte of the length, with its highest bit.
-pub fn own_bytes() {
-    one(4, 1, 128);
-    one(5, 3, 128);
-    one(6, 7, 128);
-    one(7, 15, 128);
     one(8, 31, 128);
 }
 
 // Every bit set.
 pub fn full() {
-    let zz: u8 = 0;
     all(0);
     all(7);
     all(8);

@@ -22,31 +22,27 @@ pub fn counts() {
     one(8, 0, 255, u32::MAX);
 }
 
-// For each n the last row.
-pub fn own_rows() {
+// For each n the last row and the first past the table; for n 0 and 7 the last of the array too.
+pub fn rows() {
     one(0, 0, 0, 1);
-    one(1, 0, 1, 1);
-    one(2, 0, 3, 1);
-    one(3, 0, 7, 1);
-    one(4, 0, 15, 1);
-    one(5, 0, 31, 1);
-    one(6, 0, 63, 1);
-    one(7, 0, 127, 1);
-    one(8, 0, 255, 1);
-}
-
-// For each n the first row past the table, and the last of the array.
-pub fn rows_past() {
     one(0, 0, 1, 1);
     one(0, 0, 255, 1);
+    one(1, 0, 1, 1);
     one(1, 0, 2, 1);
+    one(2, 0, 3, 1);
     one(2, 0, 4, 1);
+    one(3, 0, 7, 1);
     one(3, 0, 8, 1);
+    one(4, 0, 15, 1);
     one(4, 0, 16, 1);
+    one(5, 0, 31, 1);
     one(5, 0, 32, 1);
+    one(6, 0, 63, 1);
     one(6, 0, 64, 1);
+    one(7, 0, 127, 1);
     one(7, 0, 128, 1);
     one(7, 0, 255, 1);
+    one(8, 0, 255, 1);
 }
 
 // 2, 3, 8: 2 with 3, 2 with 8, 3 with 8 by no count, by a large one and by a row past the table, and all three.

@@ -11,6 +11,7 @@ use native.Mathlib.Omega.{arith}
 use borrow.Author.Tests.{lt-ltb, le-ltb, eqb-true, eq-eqb}
 use lib.Dec.{eqb}
 use lib.IntN.{pos, _-ℤ_}
+use Rattle.table.specs.declared.inputs.Found.the-variants.{Row, Nowhere}
 use Rattle.numbers.specs.Sum.{sumBelow}
 use Rattle.numbers.specs.Tests.{sameBool, firstFrom, isSome}
 use Rattle.numbers.proofs.SumLaws.{sum-below-ext, sum-below-most}
@@ -154,7 +155,21 @@ module _ (t : Table) (to : Bool) (place : ℕ) where
 
 -- ---- kinds
 
--- a search that code answers with a row has found one
+-- a row that is answered is somewhere
+pub row-somewhere : {r : ℕ} → Row r ≡ Nowhere → ⊥
+row-somewhere e = let z : _≡_ {A = ℕ} 0 1 = cc in omega arith
+
+-- a search that code answers with a row has found it
+pub found-some : (o : Option ℕ) (r : ℕ) → found o ≡ Row r → o ≡ some r
+found-some none r e = absurd (row-somewhere (sym e))
+found-some (some q) r e = cc
+
+-- one that it answers with nowhere has found nothing
+pub found-none : (o : Option ℕ) → found o ≡ Nowhere → o ≡ none
+found-none none e = refl
+found-none (some q) e = absurd (row-somewhere e)
+
+-- a search is answered with a row exactly if it has found one
 pub is-row-found : (o : Option ℕ) → isRow (found o) ≡ isSome o
 is-row-found none = refl
 is-row-found (some r) = refl

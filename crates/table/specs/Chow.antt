@@ -1,5 +1,5 @@
 -- Chow's parameters (document 01, "Kinds, Chow, report"; source document 003, equation 2). Definitions only. Assumes nothing.
-use mathlib.Core.Bool.{Bool, true, cond}
+use mathlib.Core.Bool.{true, cond}
 use mathlib.Core.List.{List}
 use Prim.Native.Nat.{ℕ, suc, _*_}
 use lib.Dec.{ltb}

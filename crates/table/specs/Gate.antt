@@ -1,7 +1,7 @@
 -- A gate: its distance and its value on a row, when it realises a table, and the ranges of its numbers (document 01, "Table, gate,
 -- witness"). Weights and T are integers of any size here; `Gate` is the record that code holds. Definitions only. Assumes nothing.
 use mathlib.Core.Path.{_≡_}
-use mathlib.Core.Bool.{Bool, not, cond, _&&_, _||_}
+use mathlib.Core.Bool.{Bool, not, cond, _&&_}
 use mathlib.Core.List.{List}
 use Prim.Native.Nat.{ℕ, _<_}
 use lib.Dec.{ltb}

@@ -1,11 +1,10 @@
-// Runs the checked calls over the vectors of `data` and prints a line for each, then their number and whether the places past n were
+// Runs the checked calls over the vectors and prints a line for each, then their number and whether the places past n were
 // idle and 0 in every one.
-mod data;
-mod show;
-mod text;
 mod vector;
 
-use bytes::scan::find;
+use vectors::data::VECTORS;
+use vectors::line::line_end;
+use vectors::show;
 
 // Runs each line, and prints the last two.
 fn run(lines: &[u8]) {
@@ -13,7 +12,7 @@ fn run(lines: &[u8]) {
     let mut all_idle = true;
     let mut at: usize = 0;
     while at < lines.len() {
-        let end = find(lines, at, lines.len(), b'\n');
+        let end = line_end(lines, at);
         let idle = vector::run(&lines[at..end]);
         all_idle = all_idle && idle;
         vectors = vectors + 1;
@@ -35,6 +34,6 @@ fn summary(vectors: u64, all_idle: bool) {
 }
 
 fn main() {
-    let lines = data::VECTORS;
+    let lines = VECTORS;
     run(&lines);
 }

@@ -1,12 +1,4 @@
-// One vector: a line with the name, n and the table's bytes in base sixteen, then G, T and the weights of a gate that realises the
-// table, or N and the rows of a witness that balances with count 1 on each.
-use crate::show;
-use crate::text::digit;
-use crate::text::first;
-use crate::text::number;
-use crate::text::signed;
-use crate::text::word;
-use crate::text::words_from;
+// What the checked calls say of one vector: its gate or witness, as it is and spoiled, Chow's parameters and the kinds of its inputs.
 use cell::checker::check_gate;
 use cell::checker::check_witness;
 use cell::chow::chow_parameters;
@@ -15,10 +7,16 @@ use cell::refusal::Answer;
 use cell::value::gate_value;
 use cell::value::table_value;
 use table::gate::Gate;
-use table::inputs::InputKind;
 use table::inputs::Place;
 use table::table::Table;
 use table::witness::Witness;
+use vectors::line::table_of;
+use vectors::show;
+use vectors::text::first;
+use vectors::text::number;
+use vectors::text::signed;
+use vectors::text::word;
+use vectors::text::words_from;
 
 // Prints the vector's line, and returns whether the places past n are idle and 0.
 pub fn run(line: &[u8]) -> bool {
@@ -91,21 +89,12 @@ fn past_is_idle(q: [i32; 8], places: [Place; 8], n: usize) -> bool {
     while place < 8 {
         let at = places[place];
         let kind = at.kind;
-        if q[place] != 0 || !is_idle(kind) {
+        if q[place] != 0 || show::letter(kind) != b'i' {
             return false;
         }
         place = place + 1;
     }
     true
-}
-
-fn is_idle(kind: InputKind) -> bool {
-    match kind {
-        InputKind::Idle => true,
-        InputKind::Rising => false,
-        InputKind::Falling => false,
-        InputKind::Binate => false,
-    }
 }
 
 // Returns the first row on which the table and the gate do not both say yes or both say no: the number of rows, where they agree on all.
@@ -119,26 +108,16 @@ fn agreeing_rows(table: Table, gate: Gate) -> u64 {
 
 // Whether both are yes or both no.
 fn agree(a: Answer, b: Answer) -> bool {
-    match a {
-        Answer::Yes => is_yes(b),
-        Answer::No => is_no(b),
-        Answer::Refused(_) => false,
-    }
+    let said = code(a);
+    said < 2 && said == code(b)
 }
 
-fn is_yes(a: Answer) -> bool {
-    match a {
-        Answer::Yes => true,
-        Answer::No => false,
-        Answer::Refused(_) => false,
-    }
-}
-
-fn is_no(a: Answer) -> bool {
-    match a {
-        Answer::Yes => false,
-        Answer::No => true,
-        Answer::Refused(_) => false,
+// Returns 1 for yes, 0 for no, 2 for a refusal.
+fn code(answer: Answer) -> u8 {
+    match answer {
+        Answer::Yes => 1,
+        Answer::No => 0,
+        Answer::Refused(_) => 2,
     }
 }
 
@@ -151,19 +130,6 @@ fn turned_at_0(gate: Gate) -> Gate {
         weights,
         threshold,
     }
-}
-
-// Returns the line's table.
-fn table_of(line: &[u8]) -> Table {
-    let n = (number(word(line, 1)) % 256) as u8;
-    let digits = word(line, 2);
-    let mut bytes = [0u8; 32];
-    let mut at: usize = 0;
-    while at < 64 && at < digits.len() {
-        bytes[at / 2] = bytes[at / 2] << 4 | digit(digits[at]);
-        at = at + 1;
-    }
-    Table { n, bytes }
 }
 
 // Returns the gate of n inputs whose T and weights the words are.

@@ -1,25 +1,14 @@
--- `claims::numbers_on_their_conditions`: the laws of rules, at each call's list. Assumes nothing.
-use mathlib.Core.Path.{_≡_, _∙_, ap}
-use mathlib.Core.List.{List, []}
-use Prim.Native.Nat.{ℕ}
+-- `claims::numbers_on_their_conditions`: the law of rules, at each call's list. Assumes nothing.
+use mathlib.Core.List.{[]}
 use Rattle.table.specs.Table.{value}
 use Rattle.table.specs.Gate.{gateTrue, realises}
 use Rattle.table.specs.Witness.{balances}
 use Rattle.table.specs.Inputs.{kindsOf}
 use Rattle.table.specs.Chow.{chowOf}
-use Rattle.cell.specs.Refusal.{Rule, Answered, answered, checked, NoneBroken}
 use Rattle.cell.specs.Calls.{tableRules, tableValueRules, gateValueRules, checkGateRules, checkWitnessRules}
-use Rattle.cell.proofs.RefusalLaws.{refused-first-broken, first-broken-refused, answered-none-broken, none-broken-answered}
-use Rattle.claims.specs.Claims.{ByRules}
+use Rattle.claims.proofs.Rules.{by-rules}
 use Rattle.claims.proofs.numbers_on_their_conditions.Statement.{statement}
 use Rattle.claims.proofs.numbers_on_their_conditions.Tie as tie
-
--- every list of rules, before any value
-by-rules : {A : Type 0} (rules : List Rule) (a : A) → ByRules rules a (checked rules (answered a))
-by-rules rules a = record {
-  number = λ n. (refused-first-broken rules a n, first-broken-refused rules (answered a) n);
-  value = λ c. (answered-none-broken rules a c, λ kept. none-broken-answered rules (answered a) (kept .0) ∙ ap answered (kept .1));
-}
 
 returns : tie.Need-returns
 returns c = record {

@@ -1,7 +1,6 @@
 -- `gate::gate_beyond` meets its contract: T is passed on by its bits, and read back from them. Assumes nothing.
 use mathlib.Core.Path.{_≡_, _∙_, ap}
 use mathlib.Core.Bool.{not}
-use lib.IntN.{ℤ}
 use mir.Syntax.{w32}
 use mir.Val.{toZ, ofZ}
 use borrow.Author.Needs.{needs}

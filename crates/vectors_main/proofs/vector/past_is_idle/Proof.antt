@@ -23,8 +23,8 @@ mul-if1 c = search needs
 array-copy-out-if1 : tie.Need-array-copy-out-if1 Inv-loop μ-loop
 array-copy-out-if1 c = search needs
 
-is-idle-requires : tie.Need-is-idle-requires Inv-loop μ-loop
-is-idle-requires c κs = search needs
+letter-requires : tie.Need-letter-requires Inv-loop μ-loop
+letter-requires c κs = search needs
 
 returns : tie.Need-returns Inv-loop μ-loop
 returns c = search needs
@@ -51,7 +51,7 @@ past-is-idle-spec =
     array-copy-out-at
     mul-if1
     array-copy-out-if1
-    is-idle-requires
+    letter-requires
     returns
     add-place
     loop-less

@@ -1,0 +1,62 @@
+-- `job::job::job_status` meets its contract: the table's rules first, by `table_status`, and then that the job is sound. Assumes nothing.
+use mathlib.Core.Path.{_≡_, sym, _∙_, ap}
+use mathlib.Core.Bool.{not}
+use mathlib.Core.List.{List, [], _∷_}
+use borrow.Author.Needs.{needs}
+use Rattle.cell.specs.Answers.{status}
+use Rattle.cell.specs.Refusal.{Rule, Answered, answered, checked}
+use Rattle.cell.proofs.RefusalLaws.{rule-broken, rule-kept}
+use Rattle.cell.proofs.TableChecked.{table-refused, table-passed, table-inputs}
+use Rattle.job.specs.declared.job.Job.{Job}
+use Rattle.job.specs.Calls.{unsound, jobChecked}
+use Rattle.job.proofs.job.job_status.Statement.{statement}
+use Rattle.job.proofs.job.job_status.Tie as tie
+
+abbrev others : Job → List Rule
+others j = unsound j ∷ []
+
+abbrev done : Answered (Unit {0})
+done = answered tt
+
+table-status-requires : tie.Need-table-status-requires
+table-status-requires c κs = search needs
+
+enum-known-status : tie.Need-enum-known-status
+enum-known-status c = search needs
+
+returns : tie.Need-returns
+returns c =
+    let at = c .before .before .before in
+    let j = at .before .before .args .job in
+    ap status (table-refused (j .table) (at .table-status .ensures) (others j) done (c .before .status .given .1))
+
+enum-told : tie.Need-enum-told
+enum-told c = search needs
+
+is-sound-requires : tie.Need-is-sound-requires
+is-sound-requires c κs = table-inputs _ (c .before .before .table-status .ensures) (c .enum-told .given .1)
+
+-- past the table's rules
+abbrev job : tie.After-enum-told → Job
+job c = c .before .before .before .before .args .job
+
+passed : (c : tie.After-enum-told) {next : Answered (Unit {0})} → next ≡ checked (others (job c)) done → status next ≡ status (jobChecked (job c))
+passed c e = ap status (e ∙ table-passed (job c .table) (c .before .before .table-status .ensures) (others (job c)) done (c .enum-told .given .1))
+
+returns-2 : tie.Need-returns-2
+returns-2 c = passed (c .before .before) (rule-broken 9 [] done (ap not (sym (c .before .is-sound .ensures)) ∙ c .if1 .taken))
+
+returns-3 : tie.Need-returns-3
+returns-3 c = passed (c .before .before) (rule-kept 9 [] done (ap not (sym (c .before .is-sound .ensures)) ∙ c .if1 .left))
+
+pub job-status-spec : {M : Type 1} → statement M
+job-status-spec =
+    tie.close
+    (tie.spec
+    table-status-requires
+    enum-known-status
+    returns
+    enum-told
+    is-sound-requires
+    returns-2
+    returns-3)

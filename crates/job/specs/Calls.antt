@@ -1,0 +1,109 @@
+-- The calls on a job: for each its rules in their order, and its answer (document 01, "The stepping machine" and "Who causes which
+-- number"). Definitions only. Assumes nothing.
+use mathlib.Core.Bool.{Bool, not, _||_}
+use mathlib.Core.List.{List, [], _∷_}
+use Prim.Native.Nat.{ℕ, _+_, _-_}
+use lib.Dec.{ltb, eqb}
+use lib.ListN.{replicate}
+use lib.IntN.{pos}
+use Rattle.table.specs.declared.table.Table.{Table}
+use Rattle.table.specs.declared.gate.Gate.{Gate}
+use Rattle.table.specs.declared.witness.Witness.{Witness}
+use Rattle.cell.specs.Refusal.{Rule, rule, Answered, answered, refused, checked}
+use Rattle.cell.specs.Calls.{tableRules, pastRows}
+use Rattle.cell.specs.declared.refusal.Status.the-variants as Status′
+use Rattle.job.specs.declared.job.Job.{Job}
+use Rattle.job.specs.declared.job.Stage.{Stage}
+use Rattle.job.specs.declared.job.Stage.the-variants.{Open, Found, Looped, Binate}
+use Rattle.job.specs.declared.job.Started.{Started}
+use Rattle.job.specs.declared.job.Carried.{Carried}
+use Rattle.job.specs.declared.view.Verdict.the-variants as Verdict′
+use Rattle.job.specs.declared.view.Shown.{Shown}
+use Rattle.machine.specs.Failing.{fails}
+use Rattle.job.specs.Machine.{run, fresh, startJob}
+use Rattle.machine.specs.Binate.{zeros}
+use Rattle.job.specs.Sound.{cap, isSound}
+
+-- the most corrections that one call may ask for
+abbrev pub callBudget : ℕ
+callBudget = 100000
+
+-- ---- fresh: 2, 3
+
+abbrev pub freshJob : Table → Answered Job
+freshJob t = checked (tableRules t []) (answered (fresh t))
+
+-- the job and whether it was made; beside a refusal it is the table's with all numbers 0, open
+abbrev pub started : Table → Answered Job → Started
+started t (answered j) = record { status = Status′.Done; job = j }
+started t (refused n) = record { status = Status′.Refused n; job = startJob t zeros Open }
+
+-- ---- carry-on: 2, 3, 9, 10, the ended answer, 11
+
+-- 9: job not sound
+abbrev pub unsound : Job → Rule
+unsound j = rule 9 (not (isSound j))
+
+-- 10: budget 0 or above 100,000
+abbrev pub budgetRange : ℕ → Rule
+budgetRange b = rule 10 (eqb b 0 || ltb callBudget b)
+
+-- 11: K + budget above the cap
+abbrev pub pastCap : Job → ℕ → Rule
+pastCap j b = rule 11 (ltb cap (j .k + b))
+
+-- the rules of a job, before the other rules of every call that takes one: 2, 3, 9
+abbrev pub jobRules : Job → List Rule → List Rule
+jobRules j others = tableRules (j .table) (unsound j ∷ others)
+
+-- the test of a job alone
+abbrev pub jobChecked : Job → Answered (Unit {0})
+jobChecked j = checked (jobRules j []) (answered tt)
+
+-- by whether a job is open
+abbrev pub ifOpen : Stage → Answered Job → Answered Job → Answered Job
+ifOpen Open opened ended = opened
+ifOpen Found opened ended = ended
+ifOpen Looped opened ended = ended
+ifOpen Binate opened ended = ended
+
+abbrev pub carryOn : Job → ℕ → Answered Job
+carryOn j b = checked (jobRules j (budgetRange b ∷ [])) (ifOpen (j .stage) (checked (pastCap j b ∷ []) (answered (run b j))) (answered j))
+
+-- the job after the call with the corrections made in it; beside a refusal the job as it came in, and 0
+abbrev pub carried : Job → Answered Job → Carried
+carried j (answered next) = record { status = Status′.Done; job = next; made = next .k - j .k }
+carried j (refused n) = record { status = Status′.Refused n; job = j; made = 0 }
+
+-- ---- whether a row fails in a job: 2, 3, 9, 14
+
+abbrev pub rowFails : Job → ℕ → Answered Bool
+rowFails j r = checked (jobRules j (pastRows (j .table .n) r ∷ [])) (answered (fails (j .table) (j .v) r))
+
+-- ---- what a job shows: 2, 3, 9
+
+abbrev pub gateOf : Job → Gate
+gateOf j = record { n = j .table .n; weights = j .v .a; threshold = j .v .b }
+
+abbrev pub witnessOf : Job → Witness
+witnessOf j = record { counts = j .counts }
+
+abbrev pub noGate : Gate
+noGate = record { n = 0; weights = replicate 8 (pos 0); threshold = pos 0 }
+
+abbrev pub noWitness : Witness
+noWitness = record { counts = zeros }
+
+-- a found job shows its gate, a looped or binate one its witness; an open one is given up so far
+abbrev pub shownIn : Stage → Job → Shown
+shownIn Open j = record { verdict = Verdict′.Open; gate = noGate; witness = noWitness }
+shownIn Found j = record { verdict = Verdict′.Gate; gate = gateOf j; witness = noWitness }
+shownIn Looped j = record { verdict = Verdict′.Witness; gate = noGate; witness = witnessOf j }
+shownIn Binate j = record { verdict = Verdict′.Witness; gate = noGate; witness = witnessOf j }
+
+abbrev pub showJob : Job → Answered Shown
+showJob j = checked (jobRules j []) (answered (shownIn (j .stage) j))
+
+abbrev pub shown : Answered Shown → Shown
+shown (answered s) = s
+shown (refused n) = record { verdict = Verdict′.Refused n; gate = noGate; witness = noWitness }

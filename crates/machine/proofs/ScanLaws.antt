@@ -1,0 +1,173 @@
+-- The search for the lowest failing row by blocks. An input doubles the rows: each row without it has a partner with it, whose distance is
+-- the row's and the input's weight. So a list that holds the distances of the first rows is made to hold those of twice as many, and what
+-- a search of the partners finds goes on from the search of the rows before them. Assumes nothing.
+use mathlib.Core.Path.{_≡_, sym, _∙_, ap}
+use mathlib.Core.Bool.{Bool, false}
+use mathlib.Core.List.{List}
+use mathlib.Core.Option.{Option}
+use Prim.Native.Nat.{ℕ, suc, _+_, _-_, _^_, _≤_, _<_}
+use native.Mathlib.Decide.{decLe}
+use native.Mathlib.Omega.{arith}
+use lib.ListN.{length, getD, set}
+use lib.Seq.{getD-set-same, getD-set-other}
+use lib.IntN.{ℤ, pos, _+ℤ_}
+use lib.Signed.{ltZ}
+use borrow.Author.Tests.{lt-ltb, le-ltb}
+use Rattle.table.proofs.InputLaws.{found-some, found-none}
+use Rattle.numbers.specs.Tests.{firstFrom}
+use Rattle.numbers.specs.Tabulate.{tabulate}
+use Rattle.numbers.proofs.FirstLaws.{IsFirst, first-some, first-none}
+use Rattle.numbers.proofs.TabulateLaws.{getD-tabulate}
+use Rattle.table.specs.declared.table.Table.{Table}
+use Rattle.table.specs.declared.inputs.Found.the-variants.{Row, Nowhere}
+use Rattle.table.specs.Table.{rows, value}
+use Rattle.table.specs.Gate.{distance}
+use Rattle.table.specs.Inputs.{found}
+use Rattle.table.proofs.TableLaws.{rows-le, level-past}
+use Rattle.machine.specs.declared.vector.Vector.{Vector}
+use Rattle.machine.specs.Failing.{margin, fails, failing}
+use Rattle.machine.specs.Scan.{failsAt, Holds, doubled}
+use Rattle.machine.proofs.DistanceLaws.{partner-distance}
+use Rattle.machine.proofs.FailingLaws.{failing-at, none-failing}
+
+-- ---- distances that a list holds
+
+module _ (half : ℕ) (weight : ℤ) (held : List ℤ) where
+  -- the rows below `half` keep their distances
+  pub doubled-low : (r : ℕ) → r < half → doubled half weight held r ≡ getD held r (pos 0)
+  unfolding doubled
+  doubled-low r h = rw (lt-ltb r half h)
+
+  -- each of the others has one more weight than the row `half` below it
+  pub doubled-high : (q : ℕ) → doubled half weight held (half + q) ≡ getD held q (pos 0) +ℤ weight
+  unfolding doubled
+  doubled-high q =
+      let back : half + q - half ≡ q = omega arith in
+      rw (le-ltb (half + q) half (omega arith)) (ap (λ (p : ℕ). getD held p (pos 0) +ℤ weight) back)
+
+-- ---- the rows passed
+
+-- the distances of the rows below m are held, and none of those from `low` on fails
+pub record Passed (values : List Bool) (d : ℕ → ℤ) (low m : ℕ) (held : List ℤ) : Type 0 where
+  pub holds : Holds d m held
+  pub none-fails : (r : ℕ) → low ≤ r → r < m → failsAt values d r ≡ false
+
+-- a row more, with its distance stored, is passed where it does not fail
+pub passed-more : (values : List Bool) (d : ℕ → ℤ) (low m : ℕ) (held : List ℤ) (x : ℤ) → m < length held → x ≡ d m → failsAt values d m ≡ false
+    → Passed values d low m held
+    → Passed values d low (m + 1) (set held m x)
+passed-more values d low m held x k e f p = record { holds = λ r l. store r l (decLe m r); none-fails = λ r g l. fail r g l (decLe m r) }
+  where
+    store : (r : ℕ) → r < m + 1 → Dec (m ≤ r) → getD (set held m x) r (pos 0) ≡ d r
+    store r l (yes high) = let same : m ≡ r = omega arith in rw (← same) (getD-set-same held m x (pos 0) k ∙ e)
+    store r l (no below) = getD-set-other held m r x (pos 0) (λ same. below (omega arith)) ∙ p .holds r (omega (arith, below))
+
+    fail : (r : ℕ) → low ≤ r → r < m + 1 → Dec (m ≤ r) → failsAt values d r ≡ false
+    fail r g l (yes high) = let same : m ≡ r = omega arith in rw (← same) f
+    fail r g l (no below) = p .none-fails r g (omega (arith, below))
+
+-- a row fails or not by its own distance
+fails-at-ext : (values : List Bool) (d e : ℕ → ℤ) (r : ℕ) → d r ≡ e r → failsAt values d r ≡ failsAt values e r
+unfolding failsAt
+fails-at-ext values d e r same = rw same
+
+-- what code tests, by the row's value and its distance x, is whether the row fails
+pub fails-at-test : {test : Bool} {x : ℤ} (values : List Bool) (d : ℕ → ℤ) (r : ℕ) → test ≡ ltZ (margin (getD values r false) x) (pos 1) → x ≡ d r
+    → test ≡ failsAt values d r
+unfolding failsAt
+fails-at-test values d r e same = e ∙ ap (λ (z : ℤ). ltZ (margin (getD values r false) z) (pos 1)) same
+
+-- ---- the block of an input: the partners of the rows below 2 ^ place
+
+-- the distances of these rows and their partners, from a list that holds those of the rows
+abbrev pub blockDistance : List ℤ → ℕ → List ℤ → ℕ → ℤ
+blockDistance ws place held = doubled (2 ^ place) (getD ws place (pos 0)) held
+
+-- the search through the block
+abbrev pub blockSearch : List Bool → List ℤ → ℕ → List ℤ → Option ℕ
+blockSearch values ws place held = firstFrom (failsAt values (blockDistance ws place held)) (2 ^ place) (2 ^ place)
+
+module _ (ws : List ℤ) (th : ℤ) (values : List Bool) (place : ℕ) (held : List ℤ)
+    (passed : Passed values (distance ws th) 0 (2 ^ place) held)
+  where
+    -- the rows before the block and in it have their distances
+    block-distance : (r : ℕ) → r < 2 ^ suc place → blockDistance ws place held r ≡ distance ws th r
+    block-distance r h = by (decLe (2 ^ place) r)
+      where
+        by : Dec (2 ^ place ≤ r) → blockDistance ws place held r ≡ distance ws th r
+        by (yes high) =
+            let q = r - 2 ^ place in
+            let below : q < 2 ^ place = omega arith in
+            let split : r ≡ 2 ^ place + q = omega arith in
+            let partner : q + 2 ^ place ≡ r = omega arith in
+            ap (blockDistance ws place held) split
+            ∙ doubled-high (2 ^ place) (getD ws place (pos 0)) held q
+            ∙ ap (λ (z : ℤ). z +ℤ getD ws place (pos 0)) (passed .holds q below)
+            ∙ sym (partner-distance ws th place q (level-past {n = place} q place below (omega arith)))
+            ∙ ap (distance ws th) partner
+        by (no low) =
+            let below : r < 2 ^ place = omega (arith, low) in
+            doubled-low (2 ^ place) (getD ws place (pos 0)) held r below ∙ passed .holds r below
+
+    -- so they fail in the block as they do by their distances
+    block-fails : (r : ℕ) → r < 2 ^ suc place → failsAt values (blockDistance ws place held) r ≡ failsAt values (distance ws th) r
+    block-fails r h = fails-at-ext values (blockDistance ws place held) (distance ws th) r (block-distance r h)
+
+    -- where no row of the block before m fails, no row before m does
+    none-before : (m : ℕ) → m ≤ 2 ^ suc place → ((r : ℕ) → 2 ^ place ≤ r → r < m → failsAt values (blockDistance ws place held) r ≡ false)
+        → (r : ℕ)
+        → r < m
+        → failsAt values (distance ws th) r ≡ false
+    none-before m h f r l = by (decLe (2 ^ place) r)
+      where
+        by : Dec (2 ^ place ≤ r) → failsAt values (distance ws th) r ≡ false
+        by (yes high) = sym (block-fails r (omega arith)) ∙ f r high l
+        by (no low) = passed .none-fails r (omega arith) (omega (arith, low))
+
+    -- a row that is found in the block is the lowest that fails
+    pub block-row : (q : ℕ) → found (blockSearch values ws place held) ≡ Row q → IsFirst (failsAt values (distance ws th)) (2 ^ suc place) 0 q
+    block-row q e =
+        let f = first-some (failsAt values (blockDistance ws place held)) (2 ^ place) (2 ^ place) q (found-some _ q e) in
+        record {
+          start = omega arith;
+          inside = omega arith;
+          passes = sym (block-fails q (omega arith)) ∙ f .passes;
+          before = λ r g l. none-before q (omega arith) (f .before) r l;
+        }
+
+    -- where none is found, the block is passed
+    pub block-passed : (new : List ℤ) → found (blockSearch values ws place held) ≡ Nowhere → Holds (blockDistance ws place held) (2 ^ suc place) new
+        → Passed values (distance ws th) 0 (2 ^ suc place) new
+    block-passed new e h =
+        let f = first-none (failsAt values (blockDistance ws place held)) (2 ^ place) (2 ^ place) (found-none _ e) in
+        record {
+          holds = λ r l. h r l ∙ block-distance r l;
+          none-fails = λ r g l. none-before (2 ^ suc place) (omega arith) (λ p high k. f p high (omega arith)) r l;
+        }
+
+-- ---- the search of a table
+
+module _ (t : Table) (v : Vector) (values : List Bool) (small : t .n ≤ 8) (read : values ≡ tabulate 256 (value t)) where
+  -- a row of the table fails by the values that were read from it
+  fails-read : (r : ℕ) → r < rows t → failsAt values (distance (v .a) (v .b)) r ≡ fails t v r
+  unfolding failsAt fails
+  fails-read r h =
+      let is : getD values r false ≡ value t r = rw read (getD-tabulate (value t) 256 r false (omega (arith, rows-le small))) in
+      ap (λ (y : Bool). ltZ (margin y (distance (v .a) (v .b) r)) (pos 1)) is
+
+  -- the lowest of the rows below m that fails is what is found
+  pub scan-row : (m q : ℕ) → m ≤ rows t → IsFirst (failsAt values (distance (v .a) (v .b))) m 0 q → Row q ≡ found (failing t v)
+  scan-row m q h f =
+      sym
+      (ap found
+      (failing-at t v q
+      record {
+        start = omega arith;
+        inside = omega arith;
+        passes = sym (fails-read q (omega arith)) ∙ f .passes;
+        before = λ r l k. sym (fails-read r (omega arith)) ∙ f .before r l k;
+      }))
+
+  -- where no row fails, nothing is
+  pub scan-nowhere : ((r : ℕ) → r < rows t → failsAt values (distance (v .a) (v .b)) r ≡ false) → Nowhere ≡ found (failing t v)
+  scan-nowhere p = sym (ap found (none-failing t v (λ r h. sym (fails-read r h) ∙ p r h)))

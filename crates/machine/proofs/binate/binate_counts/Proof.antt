@@ -1,0 +1,66 @@
+-- `machine::binate::binate_counts` meets its contract: a row that a search finds has its partner in the table, and no count is above 2
+-- before the second pair. Assumes nothing.
+use mathlib.Core.Path.{_≡_, sym, _∙_, ap}
+use mathlib.Core.Bool.{Bool, true, false}
+use mathlib.Core.Option.{some}
+use Prim.Native.Nat.{ℕ, _+_, _^_, _<_}
+use native.Mathlib.Omega.{arith}
+use borrow.Author.Needs.{needs}
+use Rattle.table.proofs.InputLaws.{found-some}
+use Rattle.table.specs.declared.inputs.Found.{Found}
+use Rattle.table.specs.Inputs.{firstTurn, found}
+use Rattle.machine.specs.Binate.{zeros, pairMore}
+use Rattle.machine.proofs.BinateLaws.{first-turn-partner, getD-zeros, pair-more-le, binate-counts-pairs}
+use Rattle.machine.proofs.binate.binate_counts.Statement.{statement}
+use Rattle.machine.proofs.binate.binate_counts.Tie as tie
+
+-- the answer of a search for a turn names a row with its partner below 256
+partner : (c : tie.Start) (to : Bool) {answer : Found} → answer ≡ found (firstTurn (c .args .table) to (c .args .place))
+    → (row : ℕ)
+    → answer ≡ found (some row)
+    → row + 2 ^ c .args .place < 256
+partner c to is row e =
+    let a = c .args in
+    first-turn-partner (a .table) to (a .place) row (c .pre .0) (c .pre .1) (found-some (firstTurn (a .table) to (a .place)) row (sym is ∙ e))
+
+first-turn-requires : tie.Need-first-turn-requires
+first-turn-requires c κs = search needs
+
+pair-more-requires : tie.Need-pair-more-requires
+pair-more-requires c κs = (omega arith, partner (c .before) true (c .first-turn .ensures), λ row. omega (arith, getD-zeros row))
+
+first-turn-requires-2 : tie.Need-first-turn-requires-2
+first-turn-requires-2 c κs = search needs
+
+-- the counts of the first pair
+rising : (c : tie.After-pair-more)
+    → let a = c .before .before .args in
+    c .pair-more .result ≡ pairMore (a .place) (firstTurn (a .table) true (a .place)) zeros
+rising c = let a = c .before .before .args in c .pair-more .ensures (firstTurn (a .table) true (a .place)) (c .before .first-turn .ensures)
+
+pair-more-requires-2 : tie.Need-pair-more-requires-2
+pair-more-requires-2 c κs =
+    let start = c .before .before .before in
+    let a = start .args in (
+      omega arith,
+      partner start false (c .first-turn2 .ensures),
+      λ row. rw (rising (c .before)) (omega (arith, pair-more-le (a .place) (firstTurn (a .table) true (a .place)) zeros row, getD-zeros row)),
+    )
+
+returns : tie.Need-returns
+returns c =
+    let a = c .before .before .before .before .args in
+    let falls = firstTurn (a .table) false (a .place) in
+    c .pair-more2 .ensures falls (c .before .first-turn2 .ensures)
+    ∙ ap (pairMore (a .place) falls) (rising (c .before .before))
+    ∙ sym (binate-counts-pairs (a .table) (a .place))
+
+pub binate-counts-spec : {M : Type 1} → statement M
+binate-counts-spec =
+    tie.close
+    (tie.spec
+    first-turn-requires
+    pair-more-requires
+    first-turn-requires-2
+    pair-more-requires-2
+    returns)

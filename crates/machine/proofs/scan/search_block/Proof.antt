@@ -1,0 +1,193 @@
+-- `scan::search_block` meets its contract. The loop's invariant: the list holds the distances of the rows below `half + at`, and those of
+-- the block among them do not fail. The measure is what is left of the block. Assumes nothing.
+use mathlib.Core.Path.{_≡_, refl, sym, _∙_, ap}
+use mathlib.Core.Option.{Option}
+use Prim.Native.Nat.{ℕ, _+_, _-_, _≤_}
+use native.Mathlib.Nat.{add-assoc}
+use native.Mathlib.Omega.{arith}
+use borrow.Author.Needs.{needs}
+use lib.ListN.{length, getD, length-set}
+use lib.IntN.{ℤ, pos, _+ℤ_}
+use mir.Syntax.{w32}
+use mir.Val.{toZ, ofZ, SFits}
+use mir.Facts.{toZ-ofZ}
+use Rattle.table.proofs.InputLaws.{row-somewhere}
+use Rattle.numbers.specs.Tests.{firstFrom}
+use Rattle.numbers.proofs.FirstLaws.{first-at, first-fails}
+use Rattle.numbers.proofs.Int.{natAbs-parts, size-add}
+use Rattle.numbers.proofs.Widths.{size-fits}
+use Rattle.table.specs.Inputs.{found}
+use Rattle.machine.specs.Scan.{failsAt, doubled}
+use Rattle.machine.proofs.ScanLaws.{Passed, passed-more, doubled-low, doubled-high, fails-at-test}
+use Rattle.machine.proofs.scan.search_block.Statement.{statement}
+use Rattle.machine.proofs.scan.search_block.Tie as tie
+
+abbrev Inv-loop : tie.InvT-loop
+Inv-loop distances₀ values half weight at₀ distances at =
+    (at ≤ half) × (length distances ≡ length distances₀) × Passed values (doubled half (toZ w32 weight) distances₀) half (half + at) distances
+
+abbrev μ-loop : tie.MeasureT-loop
+μ-loop distances₀ values half weight at₀ distances at = half - at
+
+loop-holds : tie.Need-loop-holds Inv-loop μ-loop
+loop-holds c = (
+  omega arith,
+  refl,
+  record {
+    holds = λ r l. sym (doubled-low _ _ _ r (omega arith));
+    none-fails = λ r g l. absurd (omega arith);
+  },
+)
+
+add-row : tie.Need-add-row Inv-loop μ-loop
+add-row c = search needs
+
+mul-distance : tie.Need-mul-distance Inv-loop μ-loop
+mul-distance c = search needs
+
+slice-copy-out-distance : tie.Need-slice-copy-out-distance Inv-loop μ-loop
+slice-copy-out-distance c = search needs
+
+abbrev start : tie.After-distance Inv-loop μ-loop → tie.Start Inv-loop μ-loop
+start c = c .before .before .before
+
+-- the row of a turn, and the distance of the row `half` below it
+abbrev row : tie.After-distance Inv-loop μ-loop → ℕ
+row c = start c .args .half + c .before .before .loop .at
+
+abbrev below : tie.After-distance Inv-loop μ-loop → ℤ
+below c = getD (c .before .before .loop .distances) (c .before .before .loop .at) (pos 0)
+
+below-fits : (c : tie.After-distance Inv-loop μ-loop) → SFits w32 (below c)
+below-fits c = record { sfits = c .distance .given }
+
+-- the rows below `half` have the distances that came in
+below-kept : (c : tie.After-distance Inv-loop μ-loop) → below c ≡ getD (start c .args .distances .now) (c .before .before .loop .at) (pos 0)
+below-kept c =
+    let at-head = c .before .before .loop in
+    at-head .inv .2 .holds (at-head .at) (omega arith) ∙ doubled-low _ _ _ (at-head .at) (omega arith)
+
+add-distance : tie.Need-add-distance Inv-loop μ-loop
+add-distance c =
+    let at = c .before .before .loop .at in
+    let old = getD (start c .args .distances .now) at (pos 0) in
+    let weight = start c .args .weight in
+    let room = start c .pre .1 at (c .before .loop-test .taken) in
+    rw (toZ-ofZ (below-fits c), below-kept c, toZ-ofZ (start c .fits .weight))
+    (size-fits (omega (arith, size-add old weight, natAbs-parts old, natAbs-parts weight)))
+
+mul-distance-2 : tie.Need-mul-distance-2 Inv-loop μ-loop
+mul-distance-2 c = search needs
+
+slice-set-from-distance : tie.Need-slice-set-from-distance Inv-loop μ-loop
+slice-set-from-distance c = search needs
+
+element-copy-out-fails-by : tie.Need-element-copy-out-fails-by Inv-loop μ-loop
+element-copy-out-fails-by c = search needs
+
+fails-by-requires : tie.Need-fails-by-requires Inv-loop μ-loop
+fails-by-requires c κs = search needs
+
+same-length : tie.Need-same-length Inv-loop μ-loop
+same-length c = search needs
+
+-- the weight and the distances of the block, as the code reads them
+abbrev added : tie.Start Inv-loop μ-loop → ℤ
+added c = toZ w32 (ofZ w32 (c .args .weight))
+
+abbrev made : tie.Start Inv-loop μ-loop → ℕ → ℤ
+made c = doubled (c .args .half) (added c) (c .args .distances .now)
+
+-- what is stored is the row's distance
+stored-made : (c : tie.After-distance Inv-loop μ-loop)
+    → toZ w32 (ofZ w32 (toZ w32 (ofZ w32 (below c)) +ℤ added (start c))) ≡ made (start c) (row c)
+stored-made c =
+    toZ-ofZ (add-distance c)
+    ∙ ap (λ (z : ℤ). z +ℤ added (start c)) (toZ-ofZ (below-fits c) ∙ below-kept c)
+    ∙ sym (doubled-high _ _ _ (c .before .before .loop .at))
+
+-- what is tested is whether the row fails
+row-fails : (c : tie.After-fails-by Inv-loop μ-loop)
+    → let turn = c .before .before in c .fails-by .result ≡ failsAt (start turn .args .values .now) (made (start turn)) (row turn)
+row-fails c = fails-at-test _ _ _ (c .fails-by .ensures) (stored-made (c .before .before))
+
+-- the contract's distances and search
+made-is : (c : tie.Start Inv-loop μ-loop) → made c ≡ doubled (c .args .half) (c .args .weight) (c .args .distances .now)
+made-is c = ap (λ (z : ℤ). doubled (c .args .half) z (c .args .distances .now)) (toZ-ofZ (c .fits .weight))
+
+abbrev search-by : tie.Start Inv-loop μ-loop → (ℕ → ℤ) → Option ℕ
+search-by c d = firstFrom (failsAt (c .args .values .now) d) (c .args .half) (c .args .half)
+
+search-is : (c : tie.Start Inv-loop μ-loop) {o : Option ℕ} → search-by c (made c) ≡ o
+    → found o ≡ found (search-by c (doubled (c .args .half) (c .args .weight) (c .args .distances .now)))
+search-is c e = ap found (sym e ∙ ap (search-by c) (made-is c))
+
+returns : tie.Need-returns Inv-loop μ-loop
+returns c =
+    let turn = c .before .before .before in
+    let a = start turn .args in (
+      search-is (start turn)
+          (first-at (failsAt (a .values .now) (made (start turn))) (a .half) (a .half) (row turn)
+          record {
+            start = omega arith;
+            inside = omega arith;
+            passes = sym (row-fails (c .before)) ∙ c .if1 .taken;
+            before = turn .before .before .loop .inv .2 .none-fails;
+          }),
+      λ e. absurd (row-somewhere e),
+    )
+
+add-at : tie.Need-add-at Inv-loop μ-loop
+add-at c = search needs
+
+loop-less : tie.Need-loop-less Inv-loop μ-loop
+loop-less c = search needs
+
+loop-again : tie.Need-loop-again Inv-loop μ-loop
+loop-again c =
+    let turn = c .before .before .before in
+    let at-head = turn .before .before .loop in
+    let a = start turn .args in
+    let passes = sym (row-fails (c .before)) ∙ c .if1 .left in (
+      omega arith,
+      simp length-set (at-head .inv .1),
+      rw (← add-assoc (a .half) (at-head .at) 1)
+          (passed-more (a .values .now) (made (start turn)) (a .half) (row turn) (at-head .distances) _
+          (omega arith) (stored-made turn) passes (at-head .inv .2)),
+    )
+
+same-length-2 : tie.Need-same-length-2 Inv-loop μ-loop
+same-length-2 c = search needs
+
+returns-2 : tie.Need-returns-2 Inv-loop μ-loop
+returns-2 c =
+    let passed = c .before .loop .inv .2 in
+    let entry = c .before .before in
+    let a = entry .args in (
+      search-is entry
+          (first-fails (failsAt (a .values .now) (made entry)) (a .half) (a .half) (λ r g l. passed .none-fails r g (omega arith))),
+      λ e r l. passed .holds r (omega arith) ∙ ap (λ (d : ℕ → ℤ). d r) (made-is entry),
+    )
+
+pub search-block-spec : {M : Type 1} → statement M
+search-block-spec =
+    tie.close
+    (tie.spec
+    Inv-loop
+    μ-loop
+    loop-holds
+    add-row
+    mul-distance
+    slice-copy-out-distance
+    add-distance
+    mul-distance-2
+    slice-set-from-distance
+    element-copy-out-fails-by
+    fails-by-requires
+    same-length
+    returns
+    add-at
+    loop-less
+    loop-again
+    same-length-2
+    returns-2)

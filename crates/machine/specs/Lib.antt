@@ -1,0 +1,5 @@
+pub mod Vector
+pub mod Failing
+pub mod Power
+pub mod Binate
+pub mod Scan

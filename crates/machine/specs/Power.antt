@@ -1,0 +1,9 @@
+-- The highest power of two (document 01, "A sound job"). Definitions only. Assumes nothing.
+use mathlib.Core.Bool.{cond}
+use Prim.Native.Nat.{ℕ, _-_, _^_}
+use lib.Dec.{eqb}
+use lib.Count.{leadingZeros}
+
+-- the highest power of two not above k, from the leading zeros of k; 0 for 0
+unfoldable pub highest : ℕ → ℕ
+highest k = cond (eqb k 0) 0 (2 ^ (31 - leadingZeros 32 k))

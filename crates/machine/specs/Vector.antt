@@ -1,0 +1,45 @@
+-- The vector v = (a1..an, b) of a job: its correction by a row, and when two are equal (document 01, "The stepping machine"; the field's
+-- term is the weight vector of a perceptron). Definitions only. Assumes nothing.
+use mathlib.Core.Bool.{Bool, true, false, _&&_}
+use mathlib.Core.List.{List, [], _∷_}
+use Prim.Native.Nat.{ℕ, zero, suc}
+use lib.ListN.{getD, replicate}
+use lib.IntN.{ℤ, pos, negsuc, negℤ, _+ℤ_, _-ℤ_, _*ℤ_}
+use lib.Signed.{leZ}
+use Rattle.table.specs.Table.{level}
+use Rattle.machine.specs.declared.vector.Vector.{Vector}
+
+-- 1 on a true row, −1 on a false row
+abbrev pub sign : Bool → ℤ
+sign true = pos 1
+sign false = negsuc 0
+
+-- z times the level of each place is added
+unfoldable pub addLevels : ℤ → (ℕ → ℕ) → List ℤ → List ℤ
+addLevels z level [] = []
+addLevels z level (x ∷ xs) = (x +ℤ pos (level 0) *ℤ z) ∷ addLevels z (λ place. level (suc place)) xs
+
+-- step 1, by a row and its value: 1 is added to the a of its true inputs and taken from b; on a false row the reverse
+unfoldable pub correctedBy : Bool → ℕ → Vector → Vector
+correctedBy y r v = record { a = addLevels (sign y) (level 2 r) (v .a); b = v .b -ℤ sign y }
+
+abbrev pub sameZ : ℤ → ℤ → Bool
+sameZ x y = leZ x y && leZ y x
+
+unfoldable pub sameList : List ℤ → List ℤ → Bool
+sameList [] [] = true
+sameList [] (y ∷ ys) = false
+sameList (x ∷ xs) [] = false
+sameList (x ∷ xs) (y ∷ ys) = sameZ x y && sameList xs ys
+
+-- v = s
+unfoldable pub sameVector : Vector → Vector → Bool
+sameVector v s = sameZ (v .b) (s .b) && sameList (v .a) (s .a)
+
+abbrev pub zeroVector : Vector
+zeroVector = record { a = replicate 8 (pos 0); b = pos 0 }
+
+-- what a correction by a row of value true adds, by its level, to component i: input i's place, and for input 0 the negation of b
+abbrev pub component : Vector → ℕ → ℤ
+component v zero = negℤ (v .b)
+component v (suc place) = getD (v .a) place (pos 0)

@@ -1,0 +1,86 @@
+// The search for the lowest failing row: the distances of the rows are made one from another, in the order of the rows, and the search
+// stops at the first that fails.
+use crate::vector::Vector;
+use table::inputs::Found;
+use table::table::Table;
+use table::table::row_value;
+ghost use mathlib.Core.Path.{_≡_};
+ghost use mathlib.Core.Bool.{true};
+ghost use Prim.Native.Nat.{ℕ, _+_, _^_, _≤_, _<_};
+ghost use lib.ListN.{length, getD};
+ghost use lib.IntN.{pos, natAbs};
+ghost use lib.Signed.{ltZ};
+ghost use Rattle.numbers.specs.Tests.{firstFrom};
+ghost use Rattle.numbers.specs.Tabulate.{tabulate};
+ghost use Rattle.table.specs.Table.{value};
+ghost use Rattle.table.specs.Gate.{weightLimit, inRange};
+ghost use Rattle.table.specs.Inputs.{found};
+ghost use Rattle.machine.specs.Failing.{margin, failing};
+ghost use Rattle.machine.specs.Scan.{failsAt, Holds, doubled};
+
+// Returns the table's value on each row.
+pub fn row_values(table: Table) -> [bool; 256]
+    ensures { λ r. ⌜ r ≡ tabulate 256 (value table) ⌝ }
+{
+    let mut values = [false; 256];
+    let mut row: usize = 0;
+    while row < 256 {
+        values[row] = row_value(table, row);
+        row = row + 1;
+    }
+    values
+}
+
+// Whether a row of this value and distance fails: its margin is below 1.
+pub fn fails_by(value: bool, distance: i32) -> bool
+    ensures { λ r. ⌜ r ≡ ltZ (margin value distance) (pos 1) ⌝ }
+{
+    if value { distance < 1 } else { -1 < distance }
+}
+
+// Searches the rows from `half` to twice `half`: each has the distance of the row `half` below it and one more weight.
+fn search_block(distances: &mut [i32], values: &[bool; 256], half: usize, weight: i32) -> Found
+    requires { ⌜ (half ≤ 128) × (half + half ≤ length (now distances)) ⌝ }
+    requires { ⌜ ((r : ℕ) → r < half → natAbs (getD (now distances) r (pos 0)) + natAbs weight < 2 ^ 31) ⌝ }
+    ensures { λ r. ⌜ r ≡ found (firstFrom (failsAt (now (values .entry)) (doubled half weight (now (distances .entry)))) half half) ⌝ }
+    ensures { λ r. ⌜ (r ≡ Found.Nowhere → Holds (doubled half weight (now (distances .entry))) (half + half) (now (distances .exit))) ⌝ }
+{
+    let mut at: usize = 0;
+    while at < half {
+        let row = half + at;
+        let distance = distances[at] + weight;
+        distances[row] = distance;
+        if fails_by(values[row], distance) {
+            return Found::Row(row);
+        }
+        at = at + 1;
+    }
+    Found::Nowhere
+}
+
+// Returns the lowest failing row. What `distances` held does not matter: it is room to work in.
+pub fn first_failing(
+    distances: &mut [i32; 256],
+    values: &[bool; 256],
+    table: Table,
+    v: Vector,
+) -> Found
+    requires { ⌜ (table .n ≤ 8) × (inRange weightLimit 8 (v .a) (v .b) ≡ true) × (now values ≡ tabulate 256 (value table)) ⌝ }
+    ensures { λ r. ⌜ r ≡ found (failing table v) ⌝ }
+{
+    let first = 0 - v.b;
+    if fails_by(values[0], first) {
+        return Found::Row(0);
+    }
+    distances[0] = first;
+    let n = table.n as usize;
+    let mut place: usize = 0;
+    while place < n {
+        let block = search_block(distances, values, 1usize << place, v.a[place]);
+        if let Found::Row(row) = block {
+            return Found::Row(row);
+        }
+        place = place + 1;
+    }
+    Found::Nowhere
+}

@@ -1,0 +1,34 @@
+-- The marked cases hold: each is computed. Assumes nothing.
+use mathlib.Core.Path.{refl}
+use lib.Count.{leadingZeros}
+use Rattle.table.specs.Table.{bitAt, spareSet}
+use Rattle.table.specs.Gate.{distance, inRange}
+use Rattle.table.specs.Witness.{balances, unfit}
+use Rattle.table.specs.Inputs.{firstTurn}
+use Rattle.table.specs.Chow.{chowOf}
+use Rattle.machine.specs.Failing.{fails, failing}
+use Rattle.machine.specs.Vector.{addLevels, correctedBy, sameList, sameVector}
+use Rattle.job.specs.Machine.{corrected, marked, settled, closed, stepIn, step, run, fresh}
+use Rattle.machine.specs.Power.{highest}
+use Rattle.machine.specs.Binate.{binateAt, binatePlace, binateCounts}
+use Rattle.job.specs.Sound.{isTraced, soundIn, isSound}
+use Rattle.theory.specs.Cases.{MarkedCases}
+
+-- m1 to m10 hold
+pub marked-cases : MarkedCases
+unfolding leadingZeros bitAt spareSet distance inRange balances unfit firstTurn chowOf fails failing addLevels correctedBy corrected sameList sameVector highest marked settled closed stepIn step run binateAt binatePlace binateCounts fresh isTraced soundIn isSound
+marked-cases = record {
+  m1 = record { stage = refl; corrections = refl; vector = refl };
+  m2 = record { stage = refl; corrections = refl; vector = refl };
+  m3 = record { stage = refl; corrections = refl; vector = refl };
+  m4 = record { stage = refl; corrections = refl; vector = refl };
+  m5 = record { stage = refl; corrections = refl; vector = refl };
+  m6 = refl;
+  m7 = refl;
+  m8 = (refl, refl);
+  m9 = (
+    record { sound = refl; stage = refl; corrections = refl; taken = refl; above = refl },
+    record { sound = refl; stage = refl; corrections = refl; taken = refl; above = refl },
+  );
+  m10 = refl;
+}

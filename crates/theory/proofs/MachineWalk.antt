@@ -1,0 +1,122 @@
+-- The machine is a perceptron: its v comes of K corrections of the vector 0, each by a row of the table at which the margin is at most 0.
+-- The invariant is of the table, K and v alone; a step that corrects by no row, and what follows a correction, leave them as they are.
+-- Assumes nothing.
+use mathlib.Core.Path.{_≡_, refl, _∙_, subst}
+use mathlib.Core.Bool.{Bool, true, false}
+use mathlib.Core.Option.{Option, some, none}
+use Prim.Native.Nat.{ℕ, zero, suc, _+_, _<_}
+use native.Mathlib.Numerals.{add-one}
+use native.Mathlib.Omega.{arith}
+use lib.Dec.{eqb}
+use lib.ListN.{length, getD-replicate}
+use lib.IntN.{ℤ, pos}
+use lib.Signed.{_≤ℤ_}
+use Rattle.numbers.proofs.Int.{integers}
+use Rattle.table.specs.declared.table.Table.{Table}
+use Rattle.table.specs.Table.{rows, level, value}
+use Rattle.table.specs.Gate.{distance}
+use Rattle.machine.specs.declared.vector.Vector.{Vector}
+use Rattle.job.specs.declared.job.Job.{Job}
+use Rattle.job.specs.declared.job.Stage.{Stage}
+use Rattle.job.specs.declared.job.Stage.the-variants.{Open, Found, Looped, Binate}
+use Rattle.machine.specs.Failing.{fails, failing}
+use Rattle.machine.specs.Vector.{correctedBy, sameVector, zeroVector}
+use Rattle.job.specs.Machine.{corrected, markIf, marked, settleBy, settled, closeIf, closed, stepBy, stepIn, step, run, freshBy, fresh}
+use Rattle.machine.specs.Power.{highest}
+use Rattle.machine.specs.Binate.{binatePlace}
+use Rattle.machine.specs.Vector.{component}
+use Rattle.machine.proofs.VectorLaws.{length-corrected, component-corrected}
+use Rattle.machine.proofs.FailingLaws.{failing-some}
+use Rattle.job.proofs.MachineLaws.{fresh-table, run-table}
+use Rattle.theory.proofs.Perceptron.{dot, Added, Walk, start, more}
+use Rattle.theory.proofs.Corrections.{correction, correction-dot}
+
+-- ---- facts of the table, K and v
+
+module _ (P : Table → ℕ → Vector → Type 0)
+    (keeps : (t : Table) (k : ℕ) (v : Vector) (r : ℕ) → failing t v ≡ some r → P t k v → P t (k + 1) (correctedBy (value t r) r v)) where
+  -- the fact, of a job
+  abbrev pub Holds : Job → Type 0
+  Holds j = P (j .table) (j .k) (j .v)
+
+  mark-keeps : (b : Bool) (j : Job) → Holds j → Holds (markIf b j)
+  mark-keeps true j p = p
+  mark-keeps false j p = p
+
+  settle-keeps : (o : Option ℕ) (j : Job) → Holds j → Holds (settleBy o j)
+  settle-keeps none j p = p
+  settle-keeps (some r) j p = p
+
+  close-keeps : (b : Bool) (j : Job) → Holds j → Holds (closeIf b j)
+  unfolding settled marked
+  close-keeps true j p = p
+  close-keeps false j p = settle-keeps (failing ((marked j) .table) ((marked j) .v)) (marked j) (mark-keeps (eqb (highest (j .k)) (j .k)) j p)
+
+  step-by-keeps : (o : Option ℕ) (j : Job) → failing (j .table) (j .v) ≡ o → Holds j → Holds (stepBy o j)
+  unfolding corrected closed
+  step-by-keeps none j e p = p
+  step-by-keeps (some r) j e p = close-keeps (sameVector ((corrected r j) .v) (j .s)) (corrected r j) (keeps (j .table) (j .k) (j .v) r e p)
+
+  step-in-keeps : (s : Stage) (j : Job) → Holds j → Holds (stepIn s j)
+  unfolding stepIn
+  step-in-keeps Open j p = step-by-keeps (failing (j .table) (j .v)) j refl p
+  step-in-keeps Found j p = p
+  step-in-keeps Looped j p = p
+  step-in-keeps Binate j p = p
+
+  -- a fact of the table, K and v that a correction by the lowest failing row keeps is kept by a run
+  pub run-keeps : (m : ℕ) (j : Job) → Holds j → Holds (run m j)
+  unfolding run step
+  run-keeps zero j p = p
+  run-keeps (suc m) j p = run-keeps m (step j) (step-in-keeps (j .stage) j p)
+
+  fresh-by-keeps : (t : Table) (o : Option ℕ) → P t 0 zeroVector → Holds (freshBy t o)
+  fresh-by-keeps t none p = p
+  fresh-by-keeps t (some place) p = p
+
+  -- so it holds after a run of the fresh job where it holds of K 0 and v 0
+  pub fresh-keeps : (t : Table) (m : ℕ) → P t 0 zeroVector → Holds (run m (fresh t))
+  unfolding fresh
+  fresh-keeps t m p = run-keeps m (fresh t) (fresh-by-keeps t (binatePlace t) p)
+
+-- ---- the walk
+
+-- the correction by a row of the table
+abbrev pub rowCorrection : Table → ℕ → ℕ → ℤ
+rowCorrection t r = correction (value t r) (level 2 r)
+
+-- v has eight places, and comes of k corrections by rows of the table
+pub record Walked (t : Table) (k : ℕ) (v : Vector) : Type 0 where
+  pub places : length (v .a) ≡ 8
+  pub walk : Walk 9 (λ r. r < rows t) (rowCorrection t) k (component v)
+
+-- a row's correction is what a step adds to v
+corrected-added : (y : Bool) (r : ℕ) (v : Vector) → length (v .a) ≡ 8 → Added 9 (correction y (level 2 r)) (component v) (component (correctedBy y r v))
+corrected-added y r v e zero h = component-corrected y r v 0 (omega arith)
+corrected-added y r v e (suc place) h = component-corrected y r v (suc place) (omega arith)
+
+-- the correction by a row that fails has a product of at most 0 with v
+failing-product : (t : Table) (v : Vector) (r : ℕ) → length (v .a) ≡ 8 → fails t v r ≡ true → dot 9 (rowCorrection t r) (component v) ≤ℤ pos 0
+unfolding fails distance
+failing-product t v r e h = rw (correction-dot 8 (value t r) (level 2 r) v (omega arith)) (omega integers)
+
+walked-keeps : (t : Table) (k : ℕ) (v : Vector) (r : ℕ) → failing t v ≡ some r → Walked t k v → Walked t (k + 1) (correctedBy (value t r) r v)
+walked-keeps t k v r e w =
+    let f = failing-some t v r e in
+    rw (add-one k) (record {
+      places = length-corrected (value t r) r v ∙ w .places;
+      walk = more r (w .walk) (omega arith) (failing-product t v r (w .places) (f .passes)) (corrected-added (value t r) r v (w .places));
+    })
+
+zero-walked : (t : Table) → Walked t 0 zeroVector
+zero-walked t = record { places = refl; walk = start zero-component }
+  where
+    zero-component : (i : ℕ) → i < 9 → component zeroVector i ≡ pos 0
+    zero-component zero h = refl
+    zero-component (suc place) h = getD-replicate 8 place (pos 0) (pos 0) (omega arith)
+
+-- after any number of steps of the fresh job, v comes of K corrections
+pub run-walked : (t : Table) (m : ℕ) → Walked t ((run m (fresh t)) .k) ((run m (fresh t)) .v)
+run-walked t m =
+    let j = run m (fresh t) in
+    subst (λ (x : Table). Walked x (j .k) (j .v)) (run-table m (fresh t) ∙ fresh-table t) (fresh-keeps Walked walked-keeps t m (zero-walked t))
