@@ -110,7 +110,7 @@ binate-sound t place e = record {
   copied = zero-ranged t;
   past = binate-past t place (binate-place-lt t place e);
   mark = sym highest-zero;
-  ended = (refl, refl, refl, (place, e, refl));
+  staged = (refl, refl, refl, (place, e, refl));
 }
 
 -- the fresh job of a table of at most eight inputs is sound

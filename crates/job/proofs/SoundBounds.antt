@@ -24,7 +24,7 @@ use Rattle.machine.proofs.RangeLaws.{InRange, in-range-correct}
 
 -- what a stage asks, of a job in that stage
 pub sound-in : (x : Stage) (j : Job) → Sound j → j .stage ≡ x → SoundIn x j
-sound-in x j s e = subst (λ (y : Stage). SoundIn y j) e (s .ended)
+sound-in x j s e = subst (λ (y : Stage). SoundIn y j) e (s .staged)
 
 -- v and s lie within ±K, and their places past n hold 0
 pub sound-current : {j : Job} → Sound j → InRange (j .k) (j .table .n) (j .v .a) (j .v .b)
@@ -35,7 +35,7 @@ sound-copied {j} s = in-range-correct (j .k) (j .table .n) (j .s .a) (j .s .b) .
 
 -- a job that is not binate is traced
 pub sound-traced : {j : Job} → Sound j → j .stage ≢ Binate → Traced j
-sound-traced {j} s n = by (j .stage) n (s .ended)
+sound-traced {j} s n = by (j .stage) n (s .staged)
   where
     by : (x : Stage) → x ≢ Binate → SoundIn x j → Traced j
     by Open n p = p .0

@@ -167,13 +167,13 @@ is-sound-correct j = (
         copied = copied;
         past = past;
         mark = eqb-true _ _ mark;
-        ended = sound-in-correct (j .stage) j (shaped .counts) .0 ended;
+        staged = sound-in-correct (j .stage) j (shaped .counts) .0 ended;
       }),
   λ s. (
       let capped = and-both (shaped-correct j .1 (s .shaped)) (le-leb _ _ (s .capped)) in
       let ranged = and-both (and-both capped (s .current)) (s .copied) in
       let marked = and-both (and-both ranged (s .past)) (eq-eqb _ _ (s .mark)) in
-      and-both marked (sound-in-correct (j .stage) j (s .shaped .counts) .1 (s .ended))),
+      and-both marked (sound-in-correct (j .stage) j (s .shaped .counts) .1 (s .staged))),
 )
   where
     both : (a b : Bool) → (a && b) ≡ true → (a ≡ true) × (b ≡ true)

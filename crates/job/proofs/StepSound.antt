@@ -69,7 +69,7 @@ stage-sound x j c m says = record {
   copied = in-range-correct (j .k) (j .table .n) (j .s .a) (j .s .b) .1 (c .copied);
   past = c .past;
   mark = m;
-  ended = says (record { total = c .traced .total; sum = c .traced .sum });
+  staged = says (record { total = c .traced .total; sum = c .traced .sum });
 }
 
 -- a job put into the stage where it stands is the job

@@ -64,6 +64,7 @@ SoundIn Looped j = Traced j × NotBinate (j .table) × (2 ≤ j .k) × (j .v ≡
 SoundIn Binate j =
     (j .k ≡ 0) × (j .v ≡ zeroVector) × (j .s ≡ zeroVector) × ((place : ℕ) × (binatePlace (j .table) ≡ some place) × (j .counts ≡ binateCounts (j .table) place))
 
+-- a sound job: the parts that every stage has, and what its own stage asks
 pub record Sound (j : Job) : Type 0 where
   pub shaped : Shaped j
   pub capped : j .k ≤ cap
@@ -71,9 +72,9 @@ pub record Sound (j : Job) : Type 0 where
   pub copied : Ranged (j .k) (j .table .n) (j .s)
   pub past : allAtMost 0 (drop (rows (j .table)) (j .counts)) ≡ true
   pub mark : j .mark ≡ markFor (j .stage) (j .k)
-  pub ended : SoundIn (j .stage) j
+  pub staged : SoundIn (j .stage) j
 
--- ---- the test
+-- ---- the test, part by part
 
 unfoldable pub isTraced : Job → Bool
 isTraced j =

@@ -39,7 +39,8 @@ sameVector v s = sameZ (v .b) (s .b) && sameList (v .a) (s .a)
 abbrev pub zeroVector : Vector
 zeroVector = record { a = replicate 8 (pos 0); b = pos 0 }
 
--- what a correction by a row of value true adds, by its level, to component i: input i's place, and for input 0 the negation of b
+-- component i of a vector: the a of input i, and for input 0 the negation of b. A correction by a true row adds to each component the level
+-- of its input
 abbrev pub component : Vector → ℕ → ℤ
 component v zero = negℤ (v .b)
 component v (suc place) = getD (v .a) place (pos 0)

@@ -1,0 +1,76 @@
+// What the calls say of a table or of a job.
+use crate::compare::is_gate_of;
+use crate::compare::same_counts;
+use crate::compare::same_job;
+use crate::compare::same_table;
+use crate::print;
+use cell::refusal::Status;
+use job::job::Carried;
+use job::job::Job;
+use job::job::job_status;
+use job::view;
+use job::view::Shown;
+use job::view::row_fails;
+use machine::vector::Vector;
+use table::table::Table;
+use vectors::show;
+
+// Prints the fresh job of a table.
+pub fn on_table(table: Table) {
+    let started = Job::fresh(table);
+    let status = started.status;
+    let job = started.job;
+    show::word(b": fresh");
+    print::status(status);
+    print::job(job);
+    print::kept(b" table", same_table(job.table, table));
+}
+
+// Prints what each call says of a job, asked for a row and carried on by a budget.
+pub fn on_job(job: Job, row: usize, budget: u32) {
+    show::word(b": job_status");
+    print::status(job_status(job));
+    show::word(b" row_fails");
+    show::answer(row_fails(job, row));
+    show::word(b" show");
+    shown(job, view::show(job));
+    show::word(b" carry_on");
+    carried(job, job.carry_on(budget));
+}
+
+// Prints the verdict, then whether the gate is all 0 or the job's v, and whether the witness is all 0 or the job's counts.
+fn shown(job: Job, shown: Shown) {
+    let verdict = shown.verdict;
+    print::verdict(verdict);
+    let zero = Vector { a: [0i32; 8], b: 0 };
+    let gate = shown.gate;
+    print::part(
+        b" v",
+        is_gate_of(gate, 0, zero),
+        is_gate_of(gate, job.table.n, job.v),
+    );
+    let witness = shown.witness;
+    let found = witness.counts;
+    let counts = job.counts;
+    print::part(
+        b" counts",
+        same_counts(found, [0u32; 256]),
+        same_counts(found, counts),
+    );
+}
+
+// Prints the corrections made and the job after the call; of a refusal, whether the job is as it came in.
+fn carried(job: Job, carried: Carried) {
+    let status = carried.status;
+    print::status(status);
+    show::word(b" made");
+    show::number(carried.made as u64);
+    let next = carried.job;
+    match status {
+        Status::Done => {
+            print::job(next);
+            print::kept(b" table", same_table(next.table, job.table));
+        }
+        Status::Refused(_) => print::kept(b"", same_job(next, job)),
+    }
+}
