@@ -23,6 +23,7 @@ abbrev pub answer : Answered Bool → Answer
 answer (answered b) = answerOf b
 answer (refused n) = Answer′.Refused n
 
+-- done where there is a value, else the number
 abbrev pub status : {A : Type 0} → Answered A → Status
 status (answered a) = Status′.Done
 status (refused n) = Status′.Refused n

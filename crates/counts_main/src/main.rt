@@ -2,10 +2,9 @@
 // the gates are the published counts of threshold functions.
 mod outcome;
 
-use outcome::run;
 use table::table::Table;
 use vectors::show;
-ghost use Prim.Native.Nat.{_≤_, _<_};
+ghost use Prim.Native.Nat.{_≤_};
 
 // Returns the table of at most four inputs whose rows are the bits of a number.
 fn table_of(n: u8, rows: u32) -> Table {
@@ -31,7 +30,7 @@ fn tally_of(n: u8, tables: u32) -> Tally
     let mut accepted: u64 = 0;
     let mut rows: u32 = 0;
     while rows < tables {
-        let ended = run(table_of(n, rows));
+        let ended = outcome::run(table_of(n, rows));
         let stage = ended.stage;
         jobs[stage] = jobs[stage] + 1;
         corrections[stage] = corrections[stage] + ended.corrections;
@@ -60,7 +59,7 @@ fn sweep(n: u8, tables: u32)
     show::word(b"\n");
 }
 
-// Prints the number of jobs of each stage, with the corrections of those that made any.
+// Prints how many jobs ended in each stage, and the corrections of those that found a gate and of those that looped.
 fn show_stages(tally: Tally) {
     let jobs = tally.jobs;
     let corrections = tally.corrections;

@@ -30,6 +30,7 @@ callBudget = 100000
 
 -- ---- fresh: 2, 3
 
+-- the fresh job of a table
 abbrev pub freshJob : Table → Answered Job
 freshJob t = checked (tableRules t []) (answered (fresh t))
 
@@ -67,6 +68,7 @@ ifOpen Found opened ended = ended
 ifOpen Looped opened ended = ended
 ifOpen Binate opened ended = ended
 
+-- an open job runs by its budget, or to its end; an ended one stays as it is, whatever the cap
 abbrev pub carryOn : Job → ℕ → Answered Job
 carryOn j b = checked (jobRules j (budgetRange b ∷ [])) (ifOpen (j .stage) (checked (pastCap j b ∷ []) (answered (run b j))) (answered j))
 
@@ -82,12 +84,15 @@ rowFails j r = checked (jobRules j (pastRows (j .table .n) r ∷ [])) (answered 
 
 -- ---- what a job shows: 2, 3, 9
 
+-- the gate of a found job: weights ai, and T = b
 abbrev pub gateOf : Job → Gate
 gateOf j = record { n = j .table .n; weights = j .v .a; threshold = j .v .b }
 
+-- the witness of a looped or binate job: its counts
 abbrev pub witnessOf : Job → Witness
 witnessOf j = record { counts = j .counts }
 
+-- what stands beside a verdict that has no gate, and beside one that has no witness: zeros
 abbrev pub noGate : Gate
 noGate = record { n = 0; weights = replicate 8 (pos 0); threshold = pos 0 }
 
@@ -104,6 +109,7 @@ shownIn Binate j = record { verdict = Verdict′.Witness; gate = noGate; witness
 abbrev pub showJob : Job → Answered Shown
 showJob j = checked (jobRules j []) (answered (shownIn (j .stage) j))
 
+-- beside a refusal there is neither
 abbrev pub shown : Answered Shown → Shown
 shown (answered s) = s
 shown (refused n) = record { verdict = Verdict′.Refused n; gate = noGate; witness = noWitness }

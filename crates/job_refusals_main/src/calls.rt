@@ -50,12 +50,12 @@ fn shown(job: Job, shown: Shown) {
         is_gate_of(gate, job.table.n, job.v),
     );
     let witness = shown.witness;
-    let found = witness.counts;
+    let shown_counts = witness.counts;
     let counts = job.counts;
     print::part(
         b" counts",
-        same_counts(found, [0u32; 256]),
-        same_counts(found, counts),
+        same_counts(shown_counts, [0u32; 256]),
+        same_counts(shown_counts, counts),
     );
 }
 

@@ -1,4 +1,5 @@
 // Cases by what is asked: one a line, in the form that `make` reads. A line of three words asks for the fresh job of its table.
+
 // The fresh job: of tables of each kind and size, and at the edges of 2 and 3.
 pub const FRESH: [u8; 741] = *b"\
 true 0 01\n\
@@ -30,7 +31,7 @@ past 7 0000000000000000000000000000000000000000000000000000000000000080\n\
 2-and-3 9 ffffffffffffffffffffffffffffffffffffffffffffffffffffffffffffffff\n\
 2-and-3 255 0000000000000000000000000000000000000000000000000000000000000080\n";
 
-// Budgets on an open job: at the edges of 10, and of 11 below, at and above the cap. The far ones use up their budget.
+// Budgets on an open job, at the edges of 10 and of 11; K below the cap, at it and above it. The far ones use up their budget.
 pub const BUDGETS: [u8; 1466] = *b"\
 fresh 2 08 O 0 0 0 0\n\
 fresh 2 08 O 0 1 0 0\n\
@@ -85,7 +86,7 @@ binate 2 06 B 0 1 0 0 c 0 1 c 1 1 c 2 1 c 3 1\n\
 binate 2 06 B 0 100000 0 0 c 0 1 c 1 1 c 2 1 c 3 1\n\
 binate 2 06 B 0 4294967295 0 0 c 0 1 c 1 1 c 2 1 c 3 1\n";
 
-// Two numbers of an order at once, and more. The job is the fresh one but for what breaks it.
+// Two refusals at once or more: the soonest in the order is given, and the ended answer in its place.
 pub const ORDERS: [u8; 870] = *b"\
 2-and-3 9 ffffffffffffffffffffffffffffffffffffffffffffffffffffffffffffffff O 0 1 0 0\n\
 2-and-9 9 08 O 0 1 0 1\n\

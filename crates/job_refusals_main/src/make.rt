@@ -1,6 +1,6 @@
 // Jobs from lines of text. The words of a line are a name, n, the table's bytes in base sixteen, the stage's letter, a row, a budget,
 // K and M, and then three for each number that is not 0: `v` or `s`, place and component, where place 0 is b, or `c`, row and count.
-// A capital sets every component or count.
+// A capital sets every component or count, whatever its place.
 use job::job::Job;
 use job::job::Stage;
 use machine::vector::Vector;
@@ -8,7 +8,6 @@ use vectors::line::table_of;
 use vectors::text::digit;
 use vectors::text::first;
 use vectors::text::word;
-ghost use Prim.Native.Nat.{_^_, _<_};
 
 // Returns the number that a word spells in base ten, modulo 2^32.
 fn number(word: &[u8]) -> u32 {

@@ -1,5 +1,6 @@
 // Cases by what the job holds: one a line, in the form that `make` reads.
-// Components of v and of s at K and one beyond, by a correction that leaves the other within; then K 0, K 1 and the type's end.
+
+// Components of v and of s at K and one beyond, by a correction that leaves the other within; then K 0, K 1 and the cap.
 pub const LIMITS: [u8; 1284] = *b"\
 v-a1-at-K 2 08 O 0 1 3 2 v 1 3 v 2 1 v 0 -1 s 1 2 c 3 1\n\
 v-a1-above 2 08 O 0 1 3 2 v 1 4 v 2 1 v 0 -1 s 1 3 c 3 1\n\
@@ -59,7 +60,7 @@ found-count 2 08 F 0 1 18 16 c 4 1 v 1 2 v 2 3 v 0 4 s 1 2 s 2 2 s 0 4 c 1 1 c 3
 looped-count 4 88f8 L 0 1 12 8 c 16 1 c 3 1 c 5 1 c 10 1 c 12 1\n\
 binate-count 2 06 B 0 1 0 0 c 4 1 c 0 1 c 1 1 c 2 1 c 3 1\n";
 
-// Each M that an open job may have, and others with counts that add up to what is left of K.
+// Each M that belongs to a small K and some large ones, and others, with counts that add up to what is left of K.
 pub const MARKS: [u8; 840] = *b"\
 right 2 08 O 0 1 0 0\n\
 right 2 08 O 0 1 1 1\n\
