@@ -12,7 +12,7 @@ use Rattle.cell.specs.declared.refusal.Status.{Status}
 use Rattle.cell.specs.declared.refusal.Status.the-variants as Status′
 use Rattle.cell.specs.Answers.{status}
 use Rattle.cell.specs.Calls.{tooManyInputs, tableRules, tableChecked}
-use Rattle.cell.specs.Refusal.{Rule, Answered, answered, refused, checked, NoneBroken, also}
+use Rattle.cell.specs.Refusal.{Rule, Answered, answered, refused, checked, NoneBroken, none, also}
 
 -- a status that has a number is that of a refusal
 pub status-refused : {A : Type 0} (a : Answered A) {n : ℕ} → status a ≡ Status′.Refused n → a ≡ refused n
@@ -33,6 +33,16 @@ narrow n (also b f) = ltb-false inputLimit n b
 -- a table whose rules are kept, before any others, has at most eight inputs
 pub kept-inputs : (t : Table) {others : List Rule} → NoneBroken (tableRules t others) → t .n ≤ 8
 kept-inputs t kept = narrow (t .n) kept
+
+-- the table's rules and the others of a call, apart and together
+pub table-kept : (t : Table) {others : List Rule} → NoneBroken (tableRules t others) → NoneBroken (tableRules t [])
+table-kept t (also few (also clear rest)) = also few (also clear none)
+
+pub others-kept : (t : Table) {others : List Rule} → NoneBroken (tableRules t others) → NoneBroken others
+others-kept t (also few (also clear rest)) = rest
+
+pub all-kept : (t : Table) {others : List Rule} → NoneBroken (tableRules t []) → NoneBroken others → NoneBroken (tableRules t others)
+all-kept t (also few (also clear end)) rest = also few (also clear rest)
 
 -- s is what `table_status` returned for the table t
 module _ {s : Status} (t : Table) (says : s ≡ status (tableChecked t)) where

@@ -1,9 +1,7 @@
 -- Every call that is its rules before its value goes by its rules: the laws of rules, over any list and any value. Assumes nothing.
 use mathlib.Core.Path.{_∙_, ap}
-use mathlib.Core.List.{List, [], _∷_, _++_}
-use Rattle.table.specs.declared.table.Table.{Table}
-use Rattle.cell.specs.Refusal.{Rule, answered, checked, NoneBroken, none, also}
-use Rattle.cell.specs.Calls.{tableRules}
+use mathlib.Core.List.{List}
+use Rattle.cell.specs.Refusal.{Rule, answered, checked}
 use Rattle.cell.proofs.RefusalLaws.{refused-first-broken, first-broken-refused, answered-none-broken, none-broken-answered}
 use Rattle.claims.specs.Claims.{ByRules}
 
@@ -13,11 +11,3 @@ by-rules rules a = record {
   number = λ n. (refused-first-broken rules a n, first-broken-refused rules (answered a) n);
   value = λ c. (answered-none-broken rules a c, λ kept. none-broken-answered rules (answered a) (kept .0) ∙ ap answered (kept .1));
 }
-
--- the table's rules are kept where they are kept before others
-pub taken-before : (t : Table) (others : List Rule) → NoneBroken (tableRules t others) → NoneBroken (tableRules t [])
-taken-before t others kept = prefix (tableRules t []) others kept
-  where
-    prefix : (rs others : List Rule) → NoneBroken (rs ++ others) → NoneBroken rs
-    prefix [] others k = none
-    prefix (r ∷ rs) others (also b k) = also {r = r} b (prefix rs others k)

@@ -6,7 +6,7 @@ use mathlib.Core.List.{List, [], _∷_}
 use Prim.Native.Nat.{ℕ}
 use native.Mathlib.Omega.{arith}
 use lib.IntN.{ℤ}
-use Rattle.cell.proofs.TableChecked.{kept-inputs}
+use Rattle.cell.proofs.TableChecked.{kept-inputs, table-kept}
 use Rattle.table.specs.Gate.{Realises}
 use Rattle.cell.specs.Refusal.{answered, NoneBroken}
 use Rattle.cell.specs.Calls.{tableRules, checkGate, checkWitness}
@@ -17,10 +17,9 @@ use Rattle.job.specs.declared.job.Stage.the-variants.{Open, Found, Looped, Bina
 use Rattle.job.specs.declared.view.Shown.{Shown}
 use Rattle.job.specs.declared.view.Verdict.the-variants as Verdict′
 use Rattle.job.specs.Sound.{Sound}
-use Rattle.job.specs.Calls.{unsound, jobRules, showJob, shownIn, gateOf, witnessOf}
+use Rattle.job.specs.Calls.{jobRules, showJob, shownIn, gateOf, witnessOf}
 use Rattle.job.proofs.JobChecked.{kept-sound}
 use Rattle.theory.proofs.Answers.{EndedWithout, found-realises, found-accepted, ended-accepted, ended-excludes}
-use Rattle.claims.proofs.Rules.{taken-before}
 
 -- a job that is shown is sound, and its table is not refused
 module _ (j : Job) (s : Shown) (e : showJob j ≡ answered s) where
@@ -31,7 +30,7 @@ module _ (j : Job) (s : Shown) (e : showJob j ≡ answered s) where
   sound = kept-sound j (parts .0)
 
   taken : NoneBroken (tableRules (j .table) [])
-  taken = taken-before (j .table) (unsound j ∷ []) (parts .0)
+  taken = table-kept (j .table) (parts .0)
 
 -- the stage that a verdict comes from
 gate-stage : (x : Stage) (j : Job) → shownIn x j .verdict ≡ Verdict′.Gate → (x ≡ Found) × (shownIn x j .gate ≡ gateOf j)

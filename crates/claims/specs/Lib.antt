@@ -1,2 +1,4 @@
 pub mod Claims
 pub mod Jobs
+pub mod Records
+pub mod Lists

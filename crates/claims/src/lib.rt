@@ -1,6 +1,13 @@
 // The claims, a function for each: its contract is the statement, and its body does nothing. So a claim without a proof fails the
 // check, and a check prints a line for each.
+use job::job::Job;
+use table::gate::Gate;
+use table::table::Table;
+use table::witness::Witness;
 ghost use Rattle.theory.specs.Cases.{MarkedCases};
+ghost use Rattle.records.specs.Record.{ofTable, ofGate, ofWitness, ofJob};
+ghost use Rattle.claims.specs.Lists.{CallsAreTheMachine};
+ghost use Rattle.claims.specs.Records.{ReadsBack, WritesBack, RecordsAreWritten};
 ghost use Rattle.claims.specs.Jobs.{JobNumbersOnTheirConditions, SoundnessIsKept, ShownIsRight, CarryOnIsTheMachine, CorrectionsAreBounded, WhatFitsIsFound};
 ghost use Rattle.claims.specs.Claims.{NumbersOnTheirConditions, CheckerIsExact, WitnessExcludes, CheckedWitnessExcludes};
 
@@ -58,3 +65,28 @@ pub fn what_fits_is_found()
 pub fn marked_cases()
     ensures { λ _. ⌜ MarkedCases ⌝ }
 {}
+
+// Demand 1: the writers give a number exactly on its condition, and keep the lent buffer's other bytes.
+pub fn records_are_written()
+    ensures { λ _. ⌜ RecordsAreWritten ⌝ }
+{}
+
+// Demand 2: reading what was written gives the same value, whatever value of the code's types is handed in.
+pub fn what_is_written_is_read(table: Table, gate: Gate, witness: Witness, job: Job)
+    ensures { λ _. ⌜ ReadsBack (ofTable table) × ReadsBack (ofGate table gate) × ReadsBack (ofWitness table witness) × ReadsBack (ofJob job) ⌝ }
+{}
+
+// Demand 2: writing what was read gives the same bytes.
+pub fn what_is_read_is_written(bytes: &[u8])
+    ensures { λ _. ⌜ WritesBack (now (bytes .entry)) ⌝ }
+{
+    nothing()
+}
+
+// Demand 3, one claim about every list of calls from the fresh job of any table.
+pub fn calls_are_the_machine(table: Table)
+    ensures { λ _. ⌜ CallsAreTheMachine table ⌝ }
+{}
+
+// Does nothing. A claim about a slice calls it: where a function calls another, its proof knows that the slice holds bytes.
+fn nothing() {}

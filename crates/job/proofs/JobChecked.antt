@@ -1,8 +1,9 @@
 -- What the test of a job (`job_status`) says of every call's rules, which begin with the job's: callers cite these laws and not the rules'
 -- text. Assumes nothing.
-use mathlib.Core.Path.{_≡_, refl, sym, _∙_}
+use mathlib.Core.Path.{_≡_, refl, sym, _∙_, ap}
+use mathlib.Core.Bool.{true, not}
 use mathlib.Core.Logic.{_≢_}
-use mathlib.Core.List.{List, []}
+use mathlib.Core.List.{List, [], _∷_}
 use Prim.Native.Nat.{ℕ, _≤_}
 use borrow.Author.Tests.{not-false}
 use Rattle.cell.specs.declared.refusal.Status.{Status}
@@ -10,17 +11,29 @@ use Rattle.cell.specs.declared.refusal.Status.the-variants as Status′
 use Rattle.cell.specs.Answers.{status}
 use Rattle.cell.specs.Refusal.{Rule, Answered, refused, checked, NoneBroken, also}
 use Rattle.cell.proofs.RefusalLaws.{refused-first-broken, first-broken-refused, none-broken-answered}
-use Rattle.cell.proofs.TableChecked.{status-refused, done-none-broken, kept-inputs}
+use Rattle.cell.proofs.TableChecked.{status-refused, done-none-broken, kept-inputs, others-kept, all-kept}
 use Rattle.job.specs.declared.job.Job.{Job}
 use Rattle.job.specs.declared.job.Stage.{Stage}
 use Rattle.job.specs.declared.job.Stage.the-variants.{Open, Found, Looped, Binate}
 use Rattle.job.specs.Sound.{Sound, isSound}
-use Rattle.job.specs.Calls.{jobRules, jobChecked, ifOpen}
+use Rattle.cell.specs.Calls.{tableRules}
+use Rattle.job.specs.Calls.{unsound, jobRules, jobChecked, ifOpen}
 use Rattle.job.proofs.SoundLaws.{is-sound-correct}
 
--- a job whose rules are kept is sound
-pub kept-sound : (j : Job) → NoneBroken (jobRules j []) → Sound j
-kept-sound j (also few (also spare (also sound rest))) = is-sound-correct j .0 (not-false (isSound j) sound)
+sound-kept : (j : Job) {others : List Rule} → NoneBroken (unsound j ∷ others) → Sound j × NoneBroken others
+sound-kept j (also sound rest) = (is-sound-correct j .0 (not-false (isSound j) sound), rest)
+
+-- a job whose rules are kept, before any others, is sound
+pub kept-sound : (j : Job) {others : List Rule} → NoneBroken (jobRules j others) → Sound j
+kept-sound j kept = sound-kept j (others-kept (j .table) kept) .0
+
+-- and the others of the call are kept
+pub job-others-kept : (j : Job) {others : List Rule} → NoneBroken (jobRules j others) → NoneBroken others
+job-others-kept j kept = sound-kept j (others-kept (j .table) kept) .1
+
+-- the rules of a sound job on a table that keeps its own, and the others, together
+pub job-all-kept : (j : Job) {others : List Rule} → NoneBroken (tableRules (j .table) []) → isSound j ≡ true → NoneBroken others → NoneBroken (jobRules j others)
+job-all-kept j taken sound rest = all-kept (j .table) taken (also (ap not sound) rest)
 
 -- s is what `job_status` returned for the job j
 module _ {s : Status} (j : Job) (says : s ≡ status (jobChecked j)) where

@@ -1,0 +1,16 @@
+-- `claims::calls_are_the_machine`: the law of lists, where the table's bytes have the length of the code's type. Assumes nothing.
+use mathlib.Core.Path.{_≡_}
+use lib.ListN.{length}
+use borrow.Author.Needs.{needs}
+use Rattle.records.specs.Record.{ofJob}
+use Rattle.records.proofs.ReadBack.{read-back}
+use Rattle.claims.proofs.Lists.{calls-are-the-machine}
+use Rattle.claims.proofs.calls_are_the_machine.Statement.{statement}
+use Rattle.claims.proofs.calls_are_the_machine.Tie as tie
+
+returns : tie.Need-returns
+returns c =
+    let bytes : length (c .args .table .bytes) ≡ 32 = search needs in calls-are-the-machine (λ j. read-back (ofJob j)) (c .args .table) bytes
+
+pub calls-are-the-machine-spec : {M : Type 1} → statement M
+calls-are-the-machine-spec = tie.close (tie.spec returns)

@@ -1,0 +1,24 @@
+-- `claims::what_is_written_is_read`: the law of records, where the arrays have the lengths of the code's types. Assumes nothing.
+use mathlib.Core.Path.{_≡_}
+use lib.ListN.{length}
+use borrow.Author.Needs.{needs}
+use Rattle.records.specs.Record.{ofTable, ofGate, ofWitness, ofJob}
+use Rattle.records.proofs.ReadBack.{read-back}
+use Rattle.claims.proofs.what_is_written_is_read.Statement.{statement}
+use Rattle.claims.proofs.what_is_written_is_read.Tie as tie
+
+returns : tie.Need-returns
+returns c =
+    let a = c .args in
+    let bytes : length (a .table .bytes) ≡ 32 = search needs in
+    let weights : length (a .gate .weights) ≡ 8 = search needs in
+    let counts : length (a .witness .counts) ≡ 256 = search needs in
+    let of-job : length (a .job .table .bytes) ≡ 32 = search needs in (
+      read-back (ofTable (a .table)) bytes,
+      read-back (ofGate (a .table) (a .gate)) (bytes, weights),
+      read-back (ofWitness (a .table) (a .witness)) (bytes, counts),
+      read-back (ofJob (a .job)) of-job,
+    )
+
+pub what-is-written-is-read-spec : {M : Type 1} → statement M
+what-is-written-is-read-spec = tie.close (tie.spec returns)

@@ -1,0 +1,13 @@
+pub mod FieldLaws
+pub mod StandsLaws
+pub mod NumberLaws
+pub mod HeadLaws
+pub mod VectorFieldLaws
+pub mod PairLaws
+pub mod WrittenLaws
+pub mod CountsLaws
+pub mod RowListRead
+pub mod RisingPairs
+pub mod RowListParts
+pub mod RowListWritten
+pub mod WeightLaws

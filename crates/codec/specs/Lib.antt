@@ -1,0 +1,5 @@
+pub mod Field
+pub mod Number
+pub mod VectorField
+pub mod RowList
+pub mod Head

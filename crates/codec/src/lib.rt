@@ -1,0 +1,1 @@
+// The fields of records as bytes: definitions and their laws, no code.

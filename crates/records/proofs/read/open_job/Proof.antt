@@ -1,0 +1,16 @@
+-- `records::read::open_job` meets its contract: M is what `top_power` finds. Assumes nothing.
+use borrow.Author.Needs.{needs}
+use Rattle.job.specs.declared.job.Stage.the-variants.{Open}
+use Rattle.records.proofs.read.open_job.Statement.{statement}
+use Rattle.records.proofs.read.open_job.Tie as tie
+
+top-power-requires : tie.Need-top-power-requires
+top-power-requires c κs = search needs
+
+returns : tie.Need-returns
+returns c =
+    let a = c .before .args in
+    λ i. record { table = a .table; k = a .k; v = a .v; mark = c .top-power .ensures i; s = a .s; counts = a .counts; stage = Open }
+
+pub open-job-spec : {M : Type 1} → statement M
+open-job-spec = tie.close (tie.spec top-power-requires returns)

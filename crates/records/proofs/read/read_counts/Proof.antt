@@ -1,0 +1,156 @@
+-- `records::read::read_counts` meets its contract: the row list by `read_rows`, whether it kept its ranges, and whether the job is sound.
+-- Assumes nothing.
+use mathlib.Core.Path.{_≡_, sym, _∙_, ap, ap₂, subst}
+use mathlib.Core.Bool.{Bool, true, false, not, _&&_}
+use mathlib.Core.List.{[], _∷_}
+use Prim.Native.Nat.{ℕ}
+use native.Mathlib.Omega.{arith}
+use borrow.Author.Needs.{needs}
+use borrow.Author.Tests.{not-false, not-true}
+use Rattle.table.specs.declared.table.Table.{Table}
+use Rattle.table.specs.Table.{rows}
+use Rattle.table.proofs.TableLaws.{rows-le}
+use Rattle.cell.specs.Refusal.{rule, answered, checked, NoneBroken}
+use Rattle.cell.specs.Calls.{tableRules}
+use Rattle.cell.proofs.RefusalLaws.{rule-broken, rule-kept}
+use Rattle.cell.proofs.TableChecked.{kept-inputs}
+use Rattle.machine.specs.declared.vector.Vector.{Vector}
+use Rattle.job.specs.declared.job.Job.{Job}
+use Rattle.job.specs.Sound.{isSound}
+use Rattle.codec.specs.Field.{Reading, field}
+use Rattle.codec.specs.RowList.{RowList, rowListAt}
+use Rattle.reading.specs.declared.rows.RowsField.{RowsField}
+use Rattle.reading.specs.Fields.{rowsField}
+use Rattle.reading.proofs.FieldFacts.{rows-refused, rows-done}
+use Rattle.records.specs.Record.{Record, ofJob, openJob, unsoundJob, countsAt}
+use Rattle.records.specs.Calls.{asRead, asBody}
+use Rattle.records.proofs.ReadLaws.{onward-refused, onward-read}
+use Rattle.records.proofs.read.read_counts.Statement.{statement}
+use Rattle.records.proofs.read.read_counts.Tie as tie
+
+-- what comes after the row list
+abbrev tested : Table → ℕ → Vector → Vector → RowList → ℕ → Reading Record
+tested t k v w list next =
+    let j = openJob t k v w (list .counts) in
+    checked (unsoundJob list j ∷ []) (answered (field (ofJob j) next))
+
+-- ---- the row list
+
+rows-of-requires : tie.Need-rows-of-requires
+rows-of-requires c κs = kept-inputs _ (c .before .pre)
+
+read-rows-requires : tie.Need-read-rows-requires
+read-rows-requires c κs =
+    let few = kept-inputs (c .before .before .args .table) (c .before .before .pre) in
+    omega (arith, c .rows-of .ensures, rows-le few)
+
+enum-known-status : tie.Need-enum-known-status
+enum-known-status c = search needs
+
+no-body-requires : tie.Need-no-body-requires
+no-body-requires c κs = search needs
+
+abbrev list : tie.After-read-rows → Reading RowList
+list c = let a = c .before .before .before .args in rowListAt false (rows (a .table)) (a .bytes .now) (a .at)
+
+list-is : (c : tie.After-read-rows) → c .read-rows .result ≡ rowsField (list c)
+list-is c =
+    let a = c .before .before .before .args in
+    c .read-rows .ensures ∙ ap (λ (m : ℕ). rowsField (rowListAt false m (a .bytes .now) (a .at))) (c .before .rows-of .ensures)
+
+returns : tie.Need-returns
+returns c =
+    let known = c .before .before in
+    let at = known .before .before in
+    let a = at .before .before .before .args in
+    c .no-body .ensures
+    ∙ ap asBody (onward-refused (list at) (tested (a .table) (a .k) (a .v) (a .s)) (rows-refused (list at) (list-is at) (known .status .given .1)))
+
+enum-told : tie.Need-enum-told
+enum-told c = search needs
+
+open-job-requires : tie.Need-open-job-requires
+open-job-requires c κs = search needs
+
+-- ---- the job
+
+module _ (c : tie.After-open-job) where
+  abbrev start : tie.Start
+  start = c .before .before .before .before .before .before .before
+
+  abbrev read : RowsField
+  read = c .before .before .before .before .read-rows .result
+
+  abbrev job : Job
+  job = let a = start .args in openJob (a .table) (a .k) (a .v) (a .s) (read .counts)
+
+  -- the call comes to what the test of the list and the job says
+  passed : {next : Reading Record} → next ≡ checked (rule 9 (not (read .kept && isSound job)) ∷ []) (answered (field (ofJob job) (read .next)))
+      → let a = start .args in asBody next ≡ asBody (countsAt (a .table) (a .k) (a .v) (a .s) (a .bytes .now) (a .at))
+  passed e =
+      let a = start .args in
+      let at = c .before .before .before .before in
+      ap asBody (e ∙ onward-read (list at) (tested (a .table) (a .k) (a .v) (a .s)) (rows-done (list at) (list-is at) (c .before .before .enum-told .given .1)))
+
+no-body-requires-2 : tie.Need-no-body-requires-2
+no-body-requires-2 c κs = search needs
+
+returns-2 : tie.Need-returns-2
+returns-2 c =
+    let at = c .before .before .before in
+    let broken : read at .kept ≡ false = not-true (read at .kept) (c .before .if1 .taken) in
+    c .no-body2 .ensures ∙ passed at (rule-broken 9 [] (answered (field (ofJob (job at)) (read at .next))) (ap (λ (b : Bool). not (b && isSound (job at))) broken))
+
+is-sound-requires : tie.Need-is-sound-requires
+is-sound-requires c κs =
+    let at = c .before .before in
+    subst (λ (j : Job). NoneBroken (tableRules (j .table) [])) (sym (at .open-job .ensures)) (start at .pre)
+
+-- whether the job is sound, and what the list and the job together come to
+sound-is : (c : tie.After-is-sound) → c .is-sound .result ≡ isSound (job (c .before .before .before))
+sound-is c = c .is-sound .ensures ∙ ap isSound (c .before .before .before .open-job .ensures)
+
+kept-is : (c : tie.After-is-sound) → (read (c .before .before .before) .kept && isSound (job (c .before .before .before))) ≡ c .is-sound .result
+kept-is c =
+    let at = c .before .before .before in
+    let kept : read at .kept ≡ true = not-false (read at .kept) (c .before .if1 .left) in
+    ap₂ _&&_ kept (sym (sound-is c))
+
+no-body-requires-3 : tie.Need-no-body-requires-3
+no-body-requires-3 c κs = search needs
+
+returns-3 : tie.Need-returns-3
+returns-3 c =
+    let tested = c .before .before in
+    let at = tested .before .before .before in
+    c .no-body3 .ensures
+    ∙ passed at (rule-broken 9 [] (answered (field (ofJob (job at)) (read at .next))) (ap not (kept-is tested) ∙ c .before .if2 .taken))
+
+with-job-requires : tie.Need-with-job-requires
+with-job-requires c κs = search needs
+
+returns-4 : tie.Need-returns-4
+returns-4 c =
+    let tested = c .before .before in
+    let at = tested .before .before .before in
+    (λ i. record { read = (c .with-job .ensures ∙ ap (λ (j : Job). asRead (answered (ofJob j))) (at .open-job .ensures)) i; next = read at .next })
+    ∙ passed at (rule-kept 9 [] (answered (field (ofJob (job at)) (read at .next))) (ap not (kept-is tested) ∙ c .before .if2 .left))
+
+pub read-counts-spec : {M : Type 1} → statement M
+read-counts-spec =
+    tie.close
+    (tie.spec
+    rows-of-requires
+    read-rows-requires
+    enum-known-status
+    no-body-requires
+    returns
+    enum-told
+    open-job-requires
+    no-body-requires-2
+    returns-2
+    is-sound-requires
+    no-body-requires-3
+    returns-3
+    with-job-requires
+    returns-4)

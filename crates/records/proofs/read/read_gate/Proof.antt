@@ -1,0 +1,64 @@
+-- `records::read::read_gate` meets its contract: the weights and T by `read_vector`, and the gate that they make. Assumes nothing.
+use mathlib.Core.Path.{_∙_, ap}
+use mathlib.Core.Bool.{true}
+use Prim.Native.Nat.{ℕ}
+use borrow.Author.Needs.{needs}
+use Rattle.table.specs.declared.table.Table.{Table}
+use Rattle.cell.specs.Refusal.{answered}
+use Rattle.machine.specs.declared.vector.Vector.{Vector}
+use Rattle.codec.specs.Field.{Reading, field}
+use Rattle.codec.specs.VectorField.{vectorAt}
+use Rattle.reading.proofs.FieldFacts.{vector-refused, vector-done}
+use Rattle.records.specs.Record.{Record, ofGate, vectorGate}
+use Rattle.records.specs.Calls.{asBody}
+use Rattle.records.proofs.ReadLaws.{onward-refused, onward-read}
+use Rattle.records.proofs.read.read_gate.Statement.{statement}
+use Rattle.records.proofs.read.read_gate.Tie as tie
+
+-- the record of the weights and T
+abbrev made : Table → Vector → ℕ → Reading Record
+made t v next = answered (field (ofGate t (vectorGate (t .n) v)) next)
+
+abbrev read : tie.After-read-vector → Reading Vector
+read c = let a = c .before .before .args in vectorAt true (a .table .n) (a .bytes .now) (a .at)
+
+read-vector-requires : tie.Need-read-vector-requires
+read-vector-requires c κs = search needs
+
+enum-known-status : tie.Need-enum-known-status
+enum-known-status c = search needs
+
+no-body-requires : tie.Need-no-body-requires
+no-body-requires c κs = search needs
+
+returns : tie.Need-returns
+returns c =
+    let known = c .before .before in
+    let at = known .before .before in
+    c .no-body .ensures
+    ∙ ap asBody (onward-refused (read at) (made (at .before .before .args .table)) (vector-refused (read at) (at .read-vector .ensures) (known .status .given .1)))
+
+enum-told : tie.Need-enum-told
+enum-told c = search needs
+
+with-gate-requires : tie.Need-with-gate-requires
+with-gate-requires c κs = search needs
+
+returns-2 : tie.Need-returns-2
+returns-2 c =
+    let told = c .before in
+    let at = told .before .before in
+    (λ i. record { read = c .with-gate .ensures i; next = at .read-vector .result .next })
+    ∙ ap asBody (onward-read (read at) (made (at .before .before .args .table)) (vector-done (read at) (at .read-vector .ensures) (told .enum-told .given .1)))
+
+pub read-gate-spec : {M : Type 1} → statement M
+read-gate-spec =
+    tie.close
+    (tie.spec
+    read-vector-requires
+    enum-known-status
+    no-body-requires
+    returns
+    enum-told
+    with-gate-requires
+    returns-2)

@@ -1,0 +1,79 @@
+-- `records::read::read_witness` meets its contract: the counts by `read_rows`, and the witness that they are. Assumes nothing.
+use mathlib.Core.Path.{_≡_, _∙_, ap}
+use mathlib.Core.Bool.{true}
+use Prim.Native.Nat.{ℕ}
+use native.Mathlib.Omega.{arith}
+use borrow.Author.Needs.{needs}
+use Rattle.table.specs.declared.table.Table.{Table}
+use Rattle.table.specs.Table.{rows}
+use Rattle.table.proofs.TableLaws.{rows-le}
+use Rattle.cell.specs.Refusal.{answered}
+use Rattle.codec.specs.Field.{Reading, field}
+use Rattle.codec.specs.RowList.{RowList, rowListAt}
+use Rattle.reading.specs.Fields.{rowsField}
+use Rattle.reading.proofs.FieldFacts.{rows-refused, rows-done}
+use Rattle.records.specs.Record.{Record, ofWitness}
+use Rattle.records.specs.Calls.{asBody}
+use Rattle.records.proofs.ReadLaws.{onward-refused, onward-read}
+use Rattle.records.proofs.read.read_witness.Statement.{statement}
+use Rattle.records.proofs.read.read_witness.Tie as tie
+
+-- the record of the counts
+abbrev made : Table → RowList → ℕ → Reading Record
+made t list next = answered (field (ofWitness t (record { counts = list .counts })) next)
+
+rows-of-requires : tie.Need-rows-of-requires
+rows-of-requires c κs = search needs
+
+read-rows-requires : tie.Need-read-rows-requires
+read-rows-requires c κs = omega (arith, c .rows-of .ensures, rows-le (c .before .before .pre))
+
+enum-known-status : tie.Need-enum-known-status
+enum-known-status c = search needs
+
+no-body-requires : tie.Need-no-body-requires
+no-body-requires c κs = search needs
+
+-- the row list, for the table's rows
+abbrev table : tie.After-read-rows → Table
+table c = c .before .before .before .args .table
+
+abbrev list : tie.After-read-rows → Reading RowList
+list c = let a = c .before .before .before .args in rowListAt true (rows (a .table)) (a .bytes .now) (a .at)
+
+list-is : (c : tie.After-read-rows) → c .read-rows .result ≡ rowsField (list c)
+list-is c =
+    let a = c .before .before .before .args in
+    c .read-rows .ensures ∙ ap (λ (m : ℕ). rowsField (rowListAt true m (a .bytes .now) (a .at))) (c .before .rows-of .ensures)
+
+returns : tie.Need-returns
+returns c =
+    let known = c .before .before in
+    let at = known .before .before in
+    c .no-body .ensures ∙ ap asBody (onward-refused (list at) (made (table at)) (rows-refused (list at) (list-is at) (known .status .given .1)))
+
+enum-told : tie.Need-enum-told
+enum-told c = search needs
+
+with-witness-requires : tie.Need-with-witness-requires
+with-witness-requires c κs = search needs
+
+returns-2 : tie.Need-returns-2
+returns-2 c =
+    let told = c .before .before in
+    let at = told .before .before in
+    (λ i. record { read = c .with-witness .ensures i; next = at .read-rows .result .next })
+    ∙ ap asBody (onward-read (list at) (made (table at)) (rows-done (list at) (list-is at) (told .enum-told .given .1)))
+
+pub read-witness-spec : {M : Type 1} → statement M
+read-witness-spec =
+    tie.close
+    (tie.spec
+    rows-of-requires
+    read-rows-requires
+    enum-known-status
+    no-body-requires
+    returns
+    enum-told
+    with-witness-requires
+    returns-2)

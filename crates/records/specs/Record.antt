@@ -1,0 +1,96 @@
+-- A record: its bytes, and what bytes mean (document 01, "Records" and "Who causes which number"). Definitions only. Assumes nothing.
+use mathlib.Core.Bool.{Bool, true, false, not, _&&_}
+use mathlib.Core.List.{List, [], _∷_, _++_}
+use Prim.Native.Nat.{ℕ, zero, suc}
+use lib.Dec.{ltb}
+use lib.ListN.{length}
+use Rattle.table.specs.declared.table.Table.{Table}
+use Rattle.table.specs.declared.gate.Gate.{Gate}
+use Rattle.table.specs.declared.witness.Witness.{Witness}
+use Rattle.table.specs.Table.{rows}
+use Rattle.cell.specs.Refusal.{Rule, rule, Answered, answered, checked}
+use Rattle.machine.specs.declared.vector.Vector.{Vector}
+use Rattle.machine.specs.Power.{highest}
+use Rattle.job.specs.declared.job.Job.{Job}
+use Rattle.job.specs.declared.job.Stage.the-variants.{Open}
+use Rattle.job.specs.Sound.{isSound}
+use Rattle.codec.specs.Field.{Reading, field, onward}
+use Rattle.codec.specs.Number.{numberBytes, numberAt}
+use Rattle.codec.specs.VectorField.{vectorBytes, vectorAt}
+use Rattle.codec.specs.RowList.{RowList, rowListBytes, rowListAt}
+use Rattle.codec.specs.Head.{headBytes, headAt}
+
+-- kinds 1 to 4: a table; a table with a gate; with a witness; an open job
+pub data Record : Type 0 where
+  ofTable : Table → Record
+  ofGate : Table → Gate → Record
+  ofWitness : Table → Witness → Record
+  ofJob : Job → Record
+
+-- the weights and T of a gate as a vector, and back
+abbrev pub gateVector : Gate → Vector
+gateVector g = record { a = g .weights; b = g .threshold }
+
+abbrev pub vectorGate : ℕ → Vector → Gate
+vectorGate n v = record { n = n; weights = v .a; threshold = v .b }
+
+-- ---- written
+
+-- after the table, kind 4 has K, v, s, and a row list
+abbrev pub jobBytes : Job → List ℕ
+jobBytes j = numberBytes (j .k) ++ (vectorBytes (j .table .n) (j .v) ++ (vectorBytes (j .table .n) (j .s) ++ rowListBytes (j .counts)))
+
+unfoldable pub recordBytes : Record → List ℕ
+recordBytes (ofTable t) = headBytes 1 t
+recordBytes (ofGate t g) = headBytes 2 t ++ vectorBytes (t .n) (gateVector g)
+recordBytes (ofWitness t w) = headBytes 3 t ++ rowListBytes (w .counts)
+recordBytes (ofJob j) = headBytes 4 (j .table) ++ jobBytes j
+
+-- ---- read
+
+-- kind 2: each weight, then T: 1, 4, 7
+abbrev pub gateAt : Table → List ℕ → ℕ → Reading Record
+gateAt t s at = onward (vectorAt true (t .n) s at) (λ v next. answered (field (ofGate t (vectorGate (t .n) v)) next))
+
+-- kind 3: a row list: each number 1, 4, 8
+abbrev pub witnessAt : Table → List ℕ → ℕ → Reading Record
+witnessAt t s at = onward (rowListAt true (rows t) s at) (λ list next. answered (field (ofWitness t (record { counts = list .counts })) next))
+
+-- the open job of the numbers of a kind 4 record. M is not stored: it is the highest power of two not above K
+abbrev pub openJob : Table → ℕ → Vector → Vector → List ℕ → Job
+openJob t k v s counts = record { table = t; k = k; v = v; mark = highest k; s = s; counts = counts; stage = Open }
+
+-- 9: the list broke a range, or the job is not sound
+abbrev pub unsoundJob : RowList → Job → Rule
+unsoundJob list j = rule 9 (not (list .kept && isSound j))
+
+-- kind 4 after K, v and s: each number 1, 4; after the last 9
+abbrev pub countsAt : Table → ℕ → Vector → Vector → List ℕ → ℕ → Reading Record
+countsAt t k v w s at =
+    onward (rowListAt false (rows t) s at) (λ list next.
+    let j = openJob t k v w (list .counts) in
+    checked (unsoundJob list j ∷ []) (answered (field (ofJob j) next)))
+
+abbrev pub jobAt : Table → List ℕ → ℕ → Reading Record
+jobAt t s at =
+    onward (numberAt s at) (λ k p. onward (vectorAt false (t .n) s p) (λ v q. onward (vectorAt false (t .n) s q) (λ w r. countsAt t k v w s r)))
+
+-- what follows the table, by the kind
+unfoldable pub bodyAt : ℕ → Table → List ℕ → ℕ → Reading Record
+bodyAt zero t s at = answered (field (ofTable t) at)
+bodyAt (suc zero) t s at = answered (field (ofTable t) at)
+bodyAt (suc (suc zero)) t s at = gateAt t s at
+bodyAt (suc (suc (suc zero))) t s at = witnessAt t s at
+bodyAt (suc (suc (suc (suc k)))) t s at = jobAt t s at
+
+-- 6: bytes left after a single record
+abbrev pub bytesLeft : List ℕ → ℕ → Rule
+bytesLeft s at = rule 6 (ltb at (length s))
+
+-- the single record from a position to the end
+unfoldable pub recordAt : List ℕ → ℕ → Answered Record
+recordAt s at = onward (headAt 4 s at) (λ head p. onward (bodyAt (head .kind) (head .table) s p) (λ x next. checked (bytesLeft s next ∷ []) (answered x)))
+
+-- what bytes mean: one record, or one number
+abbrev pub readRecord : List ℕ → Answered Record
+readRecord s = recordAt s 0

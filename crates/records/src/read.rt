@@ -1,0 +1,320 @@
+// A record read from a slice.
+use cell::refusal::Status;
+use job::job::Job;
+use job::job::Stage;
+use job::job::job_status;
+use machine::power::top_power;
+use machine::vector::Vector;
+use reading::head::read_head;
+use reading::number::read_number;
+use reading::rows::read_rows;
+use reading::vector::read_vector;
+use table::gate::Gate;
+use table::table::Table;
+use table::table::row_count;
+use table::witness::Witness;
+ghost use mathlib.Core.Path.{_≡_};
+ghost use mathlib.Core.List.{[]};
+ghost use Prim.Native.Nat.{_≤_};
+ghost use Rattle.table.specs.Table.{rowsOf};
+ghost use Rattle.cell.specs.Refusal.{answered, refused, NoneBroken};
+ghost use Rattle.cell.specs.Calls.{tableRules};
+ghost use Rattle.job.specs.Sound.{isSound};
+ghost use Rattle.job.specs.Calls.{noGate, noWitness};
+ghost use Rattle.records.specs.Record.{ofGate, ofWitness, ofJob, vectorGate, gateAt, witnessAt, openJob, countsAt, jobAt, bodyAt, recordAt};
+ghost use Rattle.records.specs.Calls.{noJob, asRead, asBody};
+
+// Which kind of record was read, or the number of a refusal.
+pub enum Kind {
+    Table,
+    Gate,
+    Witness,
+    Job,
+    Refused(u8),
+}
+
+// A record's kind and parts. What the kind does not have is all 0.
+pub struct Read {
+    pub kind: Kind,
+    pub table: Table,
+    pub gate: Gate,
+    pub witness: Witness,
+    pub job: Job,
+}
+
+// A record up to what follows its table, and the position after it. The position is 0 beside a refusal.
+struct Body {
+    read: Read,
+    next: usize,
+}
+
+// Returns a record that has no gate, no witness and no job.
+fn bare(kind: Kind, table: Table) -> Read
+    ensures { λ r. ⌜ r ≡ record { kind = kind; table = table; gate = noGate; witness = noWitness; job = noJob } ⌝ }
+{
+    let zero = Vector { a: [0i32; 8], b: 0 };
+    Read {
+        kind,
+        table,
+        gate: Gate {
+            n: 0,
+            weights: [0i32; 8],
+            threshold: 0,
+        },
+        witness: Witness {
+            counts: [0u32; 256],
+        },
+        job: Job {
+            table: Table {
+                n: 0,
+                bytes: [0u8; 32],
+            },
+            k: 0,
+            v: zero,
+            mark: 0,
+            s: zero,
+            counts: [0u32; 256],
+            stage: Stage::Open,
+        },
+    }
+}
+
+// Returns a refusal.
+fn refused(number: u8) -> Read
+    ensures { λ r. ⌜ r ≡ asRead (refused number) ⌝ }
+{
+    let table = Table {
+        n: 0,
+        bytes: [0u8; 32],
+    };
+    bare(Kind::Refused(number), table)
+}
+
+// Returns a refusal.
+fn no_body(number: u8) -> Body
+    ensures { λ r. ⌜ r ≡ asBody (refused number) ⌝ }
+{
+    Body {
+        read: refused(number),
+        next: 0,
+    }
+}
+
+// Returns the gate of n inputs with the weights and T of a vector.
+fn gate_of(n: u8, v: Vector) -> Gate
+    ensures { λ r. ⌜ r ≡ vectorGate n v ⌝ }
+{
+    let weights = v.a;
+    Gate {
+        n,
+        weights,
+        threshold: v.b,
+    }
+}
+
+// Returns the record of a table with a gate.
+fn with_gate(table: Table, v: Vector) -> Read
+    ensures { λ r. ⌜ r ≡ asRead (answered (ofGate table (vectorGate (table .n) v))) ⌝ }
+{
+    let plain = bare(Kind::Gate, table);
+    let witness = plain.witness;
+    let job = plain.job;
+    let gate = gate_of(table.n, v);
+    Read {
+        kind: Kind::Gate,
+        table,
+        gate,
+        witness,
+        job,
+    }
+}
+
+// Returns the record of a table with a witness.
+fn with_witness(table: Table, counts: [u32; 256]) -> Read
+    ensures { λ r. ⌜ r ≡ asRead (answered (ofWitness table (record { counts = counts }))) ⌝ }
+{
+    let plain = bare(Kind::Witness, table);
+    let gate = plain.gate;
+    let job = plain.job;
+    Read {
+        kind: Kind::Witness,
+        table,
+        gate,
+        witness: Witness { counts },
+        job,
+    }
+}
+
+// Returns the record of an open job.
+fn with_job(job: Job) -> Read
+    ensures { λ r. ⌜ r ≡ asRead (answered (ofJob job)) ⌝ }
+{
+    let table = job.table;
+    let plain = bare(Kind::Job, table);
+    let gate = plain.gate;
+    let witness = plain.witness;
+    Read {
+        kind: Kind::Job,
+        table,
+        gate,
+        witness,
+        job,
+    }
+}
+
+// Reads the weights and T of a gate. Refusals: 1, 4, 7.
+fn read_gate(bytes: &[u8], at: usize, table: Table) -> Body
+    requires { ⌜ table .n ≤ 8 ⌝ }
+    ensures { λ r. ⌜ r ≡ asBody (gateAt table (now (bytes .entry)) at) ⌝ }
+{
+    let field = read_vector(bytes, at, table.n, true);
+    let status = field.status;
+    if let Status::Refused(number) = status {
+        return no_body(number);
+    }
+    Body {
+        read: with_gate(table, field.v),
+        next: field.next,
+    }
+}
+
+// Returns the number of rows of n inputs.
+fn rows_of(n: u8) -> u32
+    requires { ⌜ n ≤ 8 ⌝ }
+    ensures { λ r. ⌜ r ≡ rowsOf n ⌝ }
+{
+    row_count(n) as u32
+}
+
+// Reads the counts of a witness. Refusals: 1, 4, 8.
+fn read_witness(bytes: &[u8], at: usize, table: Table) -> Body
+    requires { ⌜ table .n ≤ 8 ⌝ }
+    ensures { λ r. ⌜ r ≡ asBody (witnessAt table (now (bytes .entry)) at) ⌝ }
+{
+    let field = read_rows(bytes, at, rows_of(table.n), true);
+    let status = field.status;
+    if let Status::Refused(number) = status {
+        return no_body(number);
+    }
+    let counts = field.counts;
+    Body {
+        read: with_witness(table, counts),
+        next: field.next,
+    }
+}
+
+// Returns the open job of the numbers that a record holds. M is found from K.
+fn open_job(table: Table, k: u32, v: Vector, s: Vector, counts: [u32; 256]) -> Job
+    ensures { λ r. ⌜ r ≡ openJob table k v s counts ⌝ }
+{
+    Job {
+        table,
+        k,
+        v,
+        mark: top_power(k),
+        s,
+        counts,
+        stage: Stage::Open,
+    }
+}
+
+// Whether a job on a table that keeps its format is sound.
+fn is_sound(job: Job) -> bool
+    requires { ⌜ NoneBroken (tableRules (job .table) []) ⌝ }
+    ensures { λ r. ⌜ r ≡ isSound job ⌝ }
+{
+    let status = job_status(job);
+    match status {
+        Status::Done => true,
+        Status::Refused(_) => false,
+    }
+}
+
+// Reads the row list of a job whose other numbers were read, and tests the job. Refusals: 1, 4, 9.
+fn read_counts(bytes: &[u8], at: usize, table: Table, k: u32, v: Vector, s: Vector) -> Body
+    requires { ⌜ NoneBroken (tableRules table []) ⌝ }
+    ensures { λ r. ⌜ r ≡ asBody (countsAt table k v s (now (bytes .entry)) at) ⌝ }
+{
+    let field = read_rows(bytes, at, rows_of(table.n), false);
+    let status = field.status;
+    if let Status::Refused(number) = status {
+        return no_body(number);
+    }
+    let counts = field.counts;
+    let job = open_job(table, k, v, s, counts);
+    if !field.kept {
+        return no_body(9);
+    }
+    if !is_sound(job) {
+        return no_body(9);
+    }
+    Body {
+        read: with_job(job),
+        next: field.next,
+    }
+}
+
+// Reads K, v, s and the row list of an open job. Refusals: 1, 4, 9.
+fn read_job(bytes: &[u8], at: usize, table: Table) -> Body
+    requires { ⌜ NoneBroken (tableRules table []) ⌝ }
+    ensures { λ r. ⌜ r ≡ asBody (jobAt table (now (bytes .entry)) at) ⌝ }
+{
+    let k = read_number(bytes, at);
+    let status = k.status;
+    if let Status::Refused(number) = status {
+        return no_body(number);
+    }
+    let v = read_vector(bytes, k.next, table.n, false);
+    let status = v.status;
+    if let Status::Refused(number) = status {
+        return no_body(number);
+    }
+    let s = read_vector(bytes, v.next, table.n, false);
+    let status = s.status;
+    if let Status::Refused(number) = status {
+        return no_body(number);
+    }
+    read_counts(bytes, s.next, table, k.value, v.v, s.v)
+}
+
+// Reads what follows the table, by the kind.
+fn read_body(bytes: &[u8], at: usize, kind: u8, table: Table) -> Body
+    requires { ⌜ NoneBroken (tableRules table []) ⌝ }
+    ensures { λ r. ⌜ r ≡ asBody (bodyAt kind table (now (bytes .entry)) at) ⌝ }
+{
+    if kind < 2 {
+        return Body {
+            read: bare(Kind::Table, table),
+            next: at,
+        };
+    }
+    if kind == 2 {
+        return read_gate(bytes, at, table);
+    }
+    if kind == 3 {
+        return read_witness(bytes, at, table);
+    }
+    read_job(bytes, at, table)
+}
+
+// Reads the single record from a position to the end. Refusals: 1, 5, 4, 2, 3, as its fields stand; 7, 8 or 9 by its kind; 6.
+pub fn read_at(bytes: &[u8], at: usize) -> Read
+    ensures { λ r. ⌜ r ≡ asRead (recordAt (now (bytes .entry)) at) ⌝ }
+{
+    let head = read_head(bytes, at, 4);
+    let status = head.status;
+    if let Status::Refused(number) = status {
+        return refused(number);
+    }
+    let table = head.table;
+    let body = read_body(bytes, head.next, head.kind, table);
+    let read = body.read;
+    let kind = read.kind;
+    if let Kind::Refused(number) = kind {
+        return refused(number);
+    }
+    if body.next < bytes.len() {
+        return refused(6);
+    }
+    read
+}

@@ -1,0 +1,2 @@
+pub mod HeadParts
+pub mod RowParts

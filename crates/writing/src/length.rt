@@ -1,0 +1,54 @@
+// How many bytes fields take.
+use machine::vector::Vector;
+use table::table::Table;
+use table::table::byte_count;
+ghost use mathlib.Core.Path.{_≡_};
+ghost use Prim.Native.Nat.{_≤_};
+ghost use lib.ListN.{length};
+ghost use Rattle.codec.specs.Number.{numberBytes, signedCode};
+ghost use Rattle.codec.specs.VectorField.{vectorBytes};
+ghost use Rattle.codec.specs.Head.{headBytes};
+
+// Returns how many bytes a number takes.
+pub fn number_length(x: u32) -> usize
+    ensures { λ r. ⌜ r ≡ length (numberBytes x) ⌝ }
+{
+    if x < 128 {
+        return 1;
+    }
+    if x < 16_384 { 2 } else { 3 }
+}
+
+// Returns the number that stands for an integer: 2z, or −2z − 1 when negative.
+pub fn signed_code(z: i32) -> u32
+    ensures { λ r. ⌜ r ≡ signedCode z ⌝ }
+{
+    if z < 0 {
+        ((-1 - z) as u32) * 2 + 1
+    } else {
+        (z as u32) * 2
+    }
+}
+
+// Returns how many bytes n weights and b take.
+pub fn vector_length(v: Vector, n: u8) -> usize
+    requires { ⌜ n ≤ 8 ⌝ }
+    ensures { λ r. ⌜ r ≡ length (vectorBytes n v) ⌝ }
+{
+    let a = v.a;
+    let mut length: usize = 0;
+    let mut place: usize = 0;
+    while place < n as usize {
+        length = length + number_length(signed_code(a[place]));
+        place = place + 1;
+    }
+    length + number_length(signed_code(v.b))
+}
+
+// Returns how many bytes the head of a record takes.
+pub fn head_length(table: Table, kind: u8) -> usize
+    requires { ⌜ table .n ≤ 8 ⌝ }
+    ensures { λ r. ⌜ r ≡ length (headBytes kind table) ⌝ }
+{
+    2 + byte_count(table.n)
+}

@@ -1,0 +1,66 @@
+// Fields written into a lent buffer at a position. Each function returns the position after its field, and all other bytes keep their
+// values.
+use crate::length::signed_code;
+use machine::vector::Vector;
+use table::table::Table;
+use table::table::byte_count;
+ghost use mathlib.Core.Path.{_≡_};
+ghost use mathlib.Core.Bool.{true};
+ghost use Prim.Native.Nat.{_+_, _≤_, _<_};
+ghost use lib.ListN.{length};
+ghost use Rattle.table.specs.Gate.{weightLimit, inRange};
+ghost use Rattle.codec.specs.Field.{writtenAt};
+ghost use Rattle.codec.specs.Number.{numberBytes};
+ghost use Rattle.codec.specs.VectorField.{vectorBytes};
+ghost use Rattle.codec.specs.Head.{headBytes};
+
+// Writes a number below 2^21.
+pub fn put_number(out: &mut [u8], at: usize, x: u32) -> usize
+    requires { ⌜ (x < 2097152) × (at + length (numberBytes x) ≤ length (now out)) ⌝ }
+    ensures { λ r. ⌜ (r ≡ at + length (numberBytes x)) × (now (out .exit) ≡ writtenAt (now (out .entry)) at (numberBytes x)) ⌝ }
+{
+    if x < 128 {
+        out[at] = x as u8;
+        return at + 1;
+    }
+    out[at] = (128 + x % 128) as u8;
+    if x < 16_384 {
+        out[at + 1] = (x / 128) as u8;
+        return at + 2;
+    }
+    out[at + 1] = (128 + x / 128 % 128) as u8;
+    out[at + 2] = (x / 16_384) as u8;
+    at + 3
+}
+
+// Writes n weights and b, of a vector in range.
+pub fn put_vector(out: &mut [u8], at: usize, n: u8, v: Vector) -> usize
+    requires { ⌜ (n ≤ 8) × (inRange weightLimit 8 (v .a) (v .b) ≡ true) × (at + length (vectorBytes n v) ≤ length (now out)) ⌝ }
+    ensures { λ r. ⌜ (r ≡ at + length (vectorBytes n v)) × (now (out .exit) ≡ writtenAt (now (out .entry)) at (vectorBytes n v)) ⌝ }
+{
+    let a = v.a;
+    let mut here = at;
+    let mut place: usize = 0;
+    while place < n as usize {
+        here = put_number(out, here, signed_code(a[place]));
+        place = place + 1;
+    }
+    put_number(out, here, signed_code(v.b))
+}
+
+// Writes the head of a record at the start of the buffer.
+pub fn put_head(out: &mut [u8], kind: u8, table: Table) -> usize
+    requires { ⌜ (table .n ≤ 8) × (length (headBytes kind table) ≤ length (now out)) ⌝ }
+    ensures { λ r. ⌜ (r ≡ length (headBytes kind table)) × (now (out .exit) ≡ writtenAt (now (out .entry)) 0 (headBytes kind table)) ⌝ }
+{
+    out[0] = kind;
+    out[1] = table.n;
+    let bytes = table.bytes;
+    let count = byte_count(table.n);
+    let mut i: usize = 0;
+    while i < count {
+        out[2 + i] = bytes[i];
+        i = i + 1;
+    }
+    2 + count
+}
