@@ -2,3 +2,4 @@ pub mod Claims
 pub mod Jobs
 pub mod Records
 pub mod Lists
+pub mod Report

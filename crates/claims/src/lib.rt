@@ -7,6 +7,7 @@ use table::witness::Witness;
 ghost use Rattle.theory.specs.Cases.{MarkedCases};
 ghost use Rattle.records.specs.Record.{ofTable, ofGate, ofWitness, ofJob};
 ghost use Rattle.claims.specs.Lists.{CallsAreTheMachine};
+ghost use Rattle.claims.specs.Report.{ReportIsItsLines};
 ghost use Rattle.claims.specs.Records.{ReadsBack, WritesBack, RecordsAreWritten};
 ghost use Rattle.claims.specs.Jobs.{JobNumbersOnTheirConditions, SoundnessIsKept, ShownIsRight, CarryOnIsTheMachine, CorrectionsAreBounded, WhatFitsIsFound};
 ghost use Rattle.claims.specs.Claims.{NumbersOnTheirConditions, CheckerIsExact, WitnessExcludes, CheckedWitnessExcludes};
@@ -86,6 +87,11 @@ pub fn what_is_read_is_written(bytes: &[u8])
 // Demand 3, one claim about every list of calls from the fresh job of any table.
 pub fn calls_are_the_machine(table: Table)
     ensures { λ _. ⌜ CallsAreTheMachine table ⌝ }
+{}
+
+// Beyond the demands: the lines made one after another are the report of the whole input.
+pub fn report_is_its_lines()
+    ensures { λ _. ⌜ ReportIsItsLines ⌝ }
 {}
 
 // Does nothing. A claim about a slice calls it: where a function calls another, its proof knows that the slice holds bytes.

@@ -1,8 +1,4 @@
 // What the calls say of a table or of a job.
-use crate::compare::is_gate_of;
-use crate::compare::same_counts;
-use crate::compare::same_job;
-use crate::compare::same_table;
 use crate::print;
 use cell::refusal::Status;
 use job::job::Carried;
@@ -12,6 +8,10 @@ use job::view;
 use job::view::Shown;
 use job::view::row_fails;
 use machine::vector::Vector;
+use samples::compare::is_gate_of;
+use samples::compare::same_counts;
+use samples::compare::same_job;
+use samples::compare::same_table;
 use table::table::Table;
 use vectors::show;
 

@@ -1,12 +1,11 @@
 // Runs the calls on a job over jobs made by hand: at the edge of each refusal and of each line of "A sound job", with two refusals of
 // an order at once, and with extreme contents. Prints a line for each case, with what every call says.
 mod calls;
-mod compare;
 mod edges;
-mod make;
 mod print;
 mod soundness;
 
+use samples::make;
 use vectors::line::line_end;
 use vectors::line::table_of;
 use vectors::show;

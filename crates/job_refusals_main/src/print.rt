@@ -1,9 +1,9 @@
 // The parts of an answer on standard output.
-use crate::compare::letter;
 use cell::refusal::Status;
 use job::job::Job;
 use job::view::Verdict;
 use machine::vector::Vector;
+use samples::compare::letter;
 use vectors::show;
 
 // Writes done or a refusal's number.

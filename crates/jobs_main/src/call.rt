@@ -1,7 +1,5 @@
 // What one carry-on gives: the verdict with its gate or witness, what the checker says of that, the corrections made, the rows that
 // fail, and what one more carry-on makes of a job that has ended.
-use crate::compare::same_job;
-use crate::compare::show_same;
 use cell::checker::check_gate;
 use cell::checker::check_witness;
 use cell::refusal::Answer;
@@ -10,6 +8,7 @@ use job::job::Carried;
 use job::job::Job;
 use job::view::Verdict;
 use job::view::row_fails;
+use samples::compare::same_job;
 use table::gate::Gate;
 use table::table::Table;
 use table::witness::Witness;
@@ -139,5 +138,5 @@ fn show_more(job: Job) {
     let more = job.carry_on(Job::CALL_BUDGET);
     show::word(b" more");
     show::number(more.made as u64);
-    show_same(same_job(job, more.job));
+    show::same(same_job(job, more.job));
 }

@@ -1,7 +1,6 @@
 // Carries the job of each vector on by one call, shows what came of it, and does the same in many small calls. Prints a line for each
 // vector, a second one where the job was still open, and last the numbers of verdicts and the sum of K over the gates.
 mod call;
-mod compare;
 mod split;
 mod vector;
 

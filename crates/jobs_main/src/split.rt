@@ -1,9 +1,7 @@
 // A job carried on in many small calls.
-use crate::compare::same_job;
-use crate::compare::show_same;
-use crate::compare::stage_number;
 use job::job::Job;
-use job::job::Stage;
+use samples::compare::letter;
+use samples::compare::same_job;
 use table::table::Table;
 use vectors::show;
 
@@ -19,7 +17,7 @@ struct Calls {
 // Whether the job is open.
 fn is_open(job: Job) -> bool {
     let stage = job.stage;
-    stage_number(stage) == stage_number(Stage::Open)
+    letter(stage) == b'O'
 }
 
 // Makes calls with budgets 1, 2, 3 and so on, until the job ends or the most calls are made.
@@ -46,6 +44,6 @@ pub fn show_split(job: Job) {
     if is_open(end) {
         show::word(b" open");
     } else {
-        show_same(calls.made == job.k as u64 && same_job(job, end));
+        show::same(calls.made == job.k as u64 && same_job(job, end));
     }
 }

@@ -41,6 +41,15 @@ pub fn answer(answer: Answer) {
     }
 }
 
+// Writes a space and whether two things are the same.
+pub fn same(is_same: bool) {
+    if is_same {
+        word(b" same");
+    } else {
+        word(b" other");
+    }
+}
+
 // Writes a space and the letter of a kind.
 pub fn kind(kind: InputKind) {
     word(&[b' ', letter(kind)]);

@@ -1,0 +1,22 @@
+-- What is claimed of a report, in statements alone (document 01, "Kinds, Chow, report"). It cites the definitions that the contracts of the
+-- lines cite. Assumes nothing.
+use mathlib.Core.Path.{_≡_}
+use mathlib.Core.List.{List}
+use Prim.Native.Nat.{ℕ, _+_, _≤_, _<_}
+use lib.ListN.{length}
+use Rattle.table.specs.declared.table.Table.{Table}
+use Rattle.cell.specs.Refusal.{answered}
+use Rattle.job.specs.Machine.{fresh}
+use Rattle.job.specs.Calls.{callBudget, carryOn}
+use Rattle.reporting.specs.declared.progress.Step.the-variants.{Done}
+use Rattle.reporting.specs.Lines.{tooLongLine}
+use Rattle.reporting.specs.Report.{inputMost, decided, report, start, linesFrom, after}
+use Rattle.claims.specs.Jobs.{Taken}
+
+-- The lines that are made one after another are the report of the whole input, and after two lines more than the input has bytes the report
+-- is done; of an input above 65,536 bytes it is one line. The job that it shows of a table is what one carry-on of 100,000 gives
+pub record ReportIsItsLines : Type 0 where
+  pub lines : (s : List ℕ) → length s ≤ inputMost → (m : ℕ) → length s + 2 ≤ m → linesFrom m s start ≡ report s
+  pub ends : (s : List ℕ) (m : ℕ) → length s + 2 ≤ m → (after m s start) .step ≡ Done
+  pub too-long : (s : List ℕ) → inputMost < length s → report s ≡ tooLongLine
+  pub decides : (t : Table) → Taken t → carryOn (fresh t) callBudget ≡ answered (decided t)

@@ -1,0 +1,157 @@
+// A record as its kind and parts: from a line, written, and compared. The line is in the form that `samples::make` reads. Its letter
+// says what of the job is the record: T the table, G the table with the gate whose weights and T are v, W the table with the witness
+// whose counts are the job's, else the job after one carry-on by the line's budget. In the place of the row stands the gate's n.
+use job::job::Job;
+use job::job::Stage;
+use machine::vector::Vector;
+use records::read::Kind;
+use records::read::Read;
+use records::write::Written;
+use records::write::save;
+use records::write::write_gate;
+use records::write::write_table;
+use records::write::write_witness;
+use samples::compare::is_gate_of;
+use samples::compare::same_counts;
+use samples::compare::same_job;
+use samples::compare::same_table;
+use samples::make;
+use table::gate::Gate;
+use table::table::Table;
+use table::witness::Witness;
+use vectors::text::first;
+use vectors::text::word;
+
+// Returns the record that has no part: all numbers are 0.
+pub fn bare(kind: Kind) -> Read {
+    let table = Table {
+        n: 0,
+        bytes: [0u8; 32],
+    };
+    let zero = Vector { a: [0i32; 8], b: 0 };
+    Read {
+        kind,
+        table,
+        gate: Gate {
+            n: 0,
+            weights: [0i32; 8],
+            threshold: 0,
+        },
+        witness: Witness {
+            counts: [0u32; 256],
+        },
+        job: Job {
+            table,
+            k: 0,
+            v: zero,
+            mark: 0,
+            s: zero,
+            counts: [0u32; 256],
+            stage: Stage::Open,
+        },
+    }
+}
+
+// Returns the record of a table, without its gate, witness or job.
+fn with_table(kind: Kind, table: Table) -> Read {
+    let mut record = bare(kind);
+    record.table = table;
+    record
+}
+
+// Returns the record of a table with a gate.
+fn with_gate(table: Table, n: u8, v: Vector) -> Read {
+    let mut record = with_table(Kind::Gate, table);
+    let weights = v.a;
+    let gate = Gate {
+        n,
+        weights,
+        threshold: v.b,
+    };
+    record.gate = gate;
+    record
+}
+
+// Returns the record of a line.
+pub fn of_line(line: &[u8]) -> Read {
+    let letter = first(word(line, 3));
+    let made = make::job(line);
+    let table = made.table;
+    if letter == b'T' {
+        return with_table(Kind::Table, table);
+    }
+    if letter == b'G' {
+        return with_gate(table, (make::row(line) % 256) as u8, made.v);
+    }
+    if letter == b'W' {
+        let mut record = with_table(Kind::Witness, table);
+        let counts = made.counts;
+        let witness = Witness { counts };
+        record.witness = witness;
+        return record;
+    }
+    let mut record = with_table(Kind::Job, table);
+    let carried = made.carry_on(make::budget(line));
+    let job = carried.job;
+    record.job = job;
+    record
+}
+
+// Writes a record.
+pub fn write(record: Read, out: &mut [u8]) -> Written {
+    let kind = record.kind;
+    let table = record.table;
+    match kind {
+        Kind::Table => write_table(table, out),
+        Kind::Gate => write_gate(table, record.gate, out),
+        Kind::Witness => write_witness(table, record.witness, out),
+        Kind::Job => save(record.job, out),
+        Kind::Refused(number) => Written::Refused(number),
+    }
+}
+
+// Returns the number of a refusal, or 0.
+pub fn number_of(kind: Kind) -> u8 {
+    match kind {
+        Kind::Table => 0,
+        Kind::Gate => 0,
+        Kind::Witness => 0,
+        Kind::Job => 0,
+        Kind::Refused(number) => number,
+    }
+}
+
+// Returns a record's kind, 0 for a refusal.
+fn kind_byte(kind: Kind) -> u8 {
+    match kind {
+        Kind::Table => 1,
+        Kind::Gate => 2,
+        Kind::Witness => 3,
+        Kind::Job => 4,
+        Kind::Refused(_) => 0,
+    }
+}
+
+// Whether two records are of one kind, or refusals of one number.
+fn same_kind(x: Kind, y: Kind) -> bool {
+    kind_byte(x) == kind_byte(y) && number_of(x) == number_of(y)
+}
+
+// Whether tables, gates and witnesses are the same.
+fn same_parts(x: Read, y: Read) -> bool {
+    let x_counts = x.witness.counts;
+    let y_counts = y.witness.counts;
+    let gate = y.gate;
+    let a = gate.weights;
+    let b = gate.threshold;
+    same_table(x.table, y.table)
+        && is_gate_of(x.gate, gate.n, Vector { a, b })
+        && same_counts(x_counts, y_counts)
+}
+
+// Whether two records are the same in every part.
+pub fn same(x: Read, y: Read) -> bool {
+    let x_kind = x.kind;
+    let y_kind = y.kind;
+    same_kind(x_kind, y_kind) && same_parts(x, y) && same_job(x.job, y.job)
+}

@@ -1,0 +1,94 @@
+-- The line of a record fits into 4,096 bytes where the job's numbers fit the code's types: most of it are the pairs of 256 rows, each of at
+-- most 15 bytes. Assumes nothing.
+use mathlib.Core.Path.{_≡_}
+use mathlib.Core.List.{List}
+use Prim.Native.Nat.{ℕ, zero, suc, _+_, _*_, _^_, _≤_, _<_}
+use native.Mathlib.Omega.{arith}
+use lib.ListN.{length, getD, length-append}
+use lib.IntN.{ℤ, pos, negsuc}
+use mir.Syntax.{w32}
+use mir.Val.{SFits}
+use Rattle.numbers.specs.Sum.{weightedSum}
+use Rattle.numbers.proofs.Int.{up, dn, size-add}
+use Rattle.numbers.proofs.SumLaws.{weighted-sum-size}
+use Rattle.numbers.proofs.Widths.{fits-size}
+use Rattle.table.specs.Table.{rows}
+use Rattle.table.specs.Witness.{countOf}
+use Rattle.table.proofs.TableLaws.{rows-le}
+use Rattle.job.specs.declared.job.Job.{Job}
+use Rattle.job.specs.declared.job.Stage.{Stage}
+use Rattle.job.specs.declared.job.Stage.the-variants.{Open, Found, Looped, Binate}
+use Rattle.reporting.specs.Text.{decimal, signedText}
+use Rattle.reporting.specs.Lines.{size, weightsText, gateText, height, pairText, pairsText, witnessText, openText, verdictText, recordLine}
+use Rattle.reporting.proofs.TextLaws.{decimal-most}
+use Rattle.reporting.proofs.HeightLaws.{height-most}
+use Rattle.reporting.proofs.PairTextLaws.{pairs-text-zero, pairs-text-suc}
+
+-- a number of at most so many digits, with its sign
+signed-most : (d : ℕ) (z : ℤ) → up z + dn z < 10 ^ suc d → length (signedText z) ≤ suc (suc d)
+signed-most d (pos n) h = omega (arith, decimal-most d n (omega arith))
+signed-most d (negsuc n) h = omega (arith, decimal-most d (suc n) (omega arith))
+
+-- a pair, the pairs of so many rows, and so many weights
+pair-most : (row count : ℕ) → row < 256 → count ≤ 4294967295 → length (pairText row count) ≤ 15
+pair-most row zero h k = omega arith
+pair-most row (suc count) h k = rw length-append (omega (arith, decimal-most 2 row (omega arith), decimal-most 9 (suc count) (omega arith)))
+
+pairs-most : (counts : List ℕ) → ((r : ℕ) → countOf counts r ≤ 4294967295) → (m row : ℕ) → row + m ≤ 256 → length (pairsText counts m row) ≤ 15 * m
+pairs-most counts small zero row h = rw pairs-text-zero (omega arith)
+pairs-most counts small (suc m) row h =
+    let first = pair-most row (countOf counts row) (omega arith) (small row) in
+    rw (pairs-text-suc counts m row, length-append) (omega (arith, first, pairs-most counts small m (suc row) (omega arith)))
+
+weights-most : (a : List ℤ) → ((place : ℕ) → SFits w32 (getD a place (pos 0))) → (m place : ℕ) → length (weightsText a m place) ≤ 12 * m
+unfolding weightsText
+weights-most a fits zero place = omega arith
+weights-most a fits (suc m) place =
+    let weight = getD a place (pos 0) in
+    rw length-append (omega (arith, signed-most 9 weight (omega (arith, fits-size (fits place))), weights-most a fits m (suc place)))
+
+-- the numbers of a job, in the ranges of the code's types
+pub record Held (j : Job) : Type 0 where
+  pub k : j .k < 2 ^ 32
+  pub count : (r : ℕ) → countOf (j .counts) r ≤ 4294967295
+  pub weights : length (j .v .a) ≡ 8
+  pub weight : (place : ℕ) → SFits w32 (getD (j .v .a) place (pos 0))
+  pub threshold : SFits w32 (j .v .b)
+
+module _ (j : Job) (held : Held j) where
+  -- the size, K, and each kind of verdict
+  size-most : up (size (j .v)) + dn (size (j .v)) ≤ 9 * 2 ^ 31
+  unfolding size
+  size-most =
+      let sum = weightedSum (j .v .a) (λ place. 1) in
+      let weighed = weighted-sum-size (j .v .a) (λ place. 1) 1 (2 ^ 31) (λ place h. omega arith) (λ place h. fits-size (held .weight place)) in
+      omega (arith, held .weights, weighed, fits-size (held .threshold), size-add sum (j .v .b))
+
+  k-most : length (decimal (j .k)) ≤ 10
+  k-most = decimal-most 9 (j .k) (omega (arith, held .k))
+
+  gate-most : j .table .n ≤ 8 → length (gateText (j .table .n) (j .k) (j .v)) ≤ 134
+  unfolding gateText size
+  gate-most h =
+      let total = signed-most 10 (size (j .v)) (omega (arith, size-most)) in
+      let threshold = signed-most 9 (j .v .b) (omega (arith, fits-size (held .threshold))) in
+      simp length-append (omega (arith, k-most, total, weights-most (j .v .a) (held .weight) (j .table .n) 0, threshold))
+
+  witness-most : j .table .n ≤ 8 → length (witnessText (j .table) (j .k) (j .counts)) ≤ 3867
+  unfolding witnessText
+  witness-most h =
+      let tall = decimal-most 12 (height (j .table) (j .counts)) (omega (arith, height-most (j .table) (j .counts) (held .count) h)) in
+      simp length-append (omega (arith, k-most, tall, rows-le h, pairs-most (j .counts) (held .count) (rows (j .table)) 0 (omega (arith, rows-le h))))
+
+  verdict-most : j .table .n ≤ 8 → (x : Stage) → length (verdictText x j) ≤ 3867
+  unfolding openText
+  verdict-most h Open = omega (arith, k-most)
+  verdict-most h Found = omega (arith, gate-most h)
+  verdict-most h Looped = witness-most h
+  verdict-most h Binate = witness-most h
+
+  -- a line with a position of 64 bits
+  pub record-room : (position : ℕ) → position < 2 ^ 64 → j .table .n ≤ 8 → length (recordLine position j) ≤ 4096
+  unfolding recordLine
+  record-room position p h =
+      simp length-append (omega (arith, decimal-most 19 position (omega arith), decimal-most 0 (j .table .n) (omega arith), verdict-most h (j .stage)))

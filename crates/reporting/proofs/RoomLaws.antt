@@ -1,0 +1,26 @@
+-- The last line and the line of a refusal fit into 4,096 bytes: a number has at most twenty digits. Assumes nothing.
+use Prim.Native.Nat.{ℕ, zero, suc, _/_, _%_, _≤_}
+use native.Mathlib.Omega.{arith}
+use lib.ListN.{length, length-append}
+use Rattle.reporting.specs.declared.tally.Tally.{Tally}
+use Rattle.reporting.specs.Lines.{refusalLine, meanTenths, meanText, lastLine}
+use Rattle.reporting.proofs.TextLaws.{decimal-twenty}
+
+-- the line of a refusal
+pub refusal-room : (position number : ℕ) → length (refusalLine position number) ≤ 4096
+unfolding refusalLine
+refusal-room position number = simp length-append (omega (arith, decimal-twenty position, decimal-twenty number))
+
+-- two numbers and the point
+mean-most : (gates sum : ℕ) → length (meanText gates sum) ≤ 41
+mean-most zero sum = omega arith
+mean-most (suc gates) sum =
+    let tenths = meanTenths (suc gates) sum in
+    rw length-append (omega (arith, decimal-twenty (tenths / 10), decimal-twenty (tenths % 10)))
+
+-- the last line
+pub last-room : (t : Tally) → length (lastLine t) ≤ 4096
+unfolding lastLine
+last-room t =
+    simp length-append
+    (omega (arith, decimal-twenty (t .records), decimal-twenty (t .gates), decimal-twenty (t .witnesses), decimal-twenty (t .opens), mean-most (t .gates) (t .sum)))

@@ -1,0 +1,162 @@
+-- `line::last_line` meets its contract: the records, the numbers of G, N and S, the mean and a line feed are written one behind the other.
+-- Assumes nothing.
+use mathlib.Core.Path.{_∙_, ap}
+use mathlib.Core.List.{List, [], _∷_, _++_}
+use Prim.Native.Nat.{ℕ, _+_, _<_}
+use native.Mathlib.Omega.{arith}
+use lib.ListN.{length, set}
+use denote.Ref.{now}
+use Rattle.codec.proofs.WrittenLaws.{Written, written-length}
+use Rattle.reporting.specs.Text.{decimal, spaced, lineFeed}
+use Rattle.reporting.specs.Lines.{meanText, lastLine}
+use Rattle.reporting.proofs.LineWriting.{Left, all-left, next-room, next-left, stored-byte}
+use Rattle.reporting.proofs.line.last_line.Statement.{statement}
+use Rattle.reporting.proofs.line.last_line.Tie as tie
+
+-- the fields
+abbrev records : tie.Start → List ℕ
+records s = decimal (s .args .tally .records)
+
+abbrev gates : tie.Start → List ℕ
+gates s = spaced (decimal (s .args .tally .gates))
+
+abbrev witnesses : tie.Start → List ℕ
+witnesses s = spaced (decimal (s .args .tally .witnesses))
+
+abbrev opens : tie.Start → List ℕ
+opens s = spaced (decimal (s .args .tally .opens))
+
+abbrev space : List ℕ
+space = 32 ∷ []
+
+abbrev mean : tie.Start → List ℕ
+mean s = meanText (s .args .tally .gates) (s .args .tally .sum)
+
+-- the line from each field on
+abbrev from-space : tie.Start → List ℕ
+from-space s = space ++ (mean s ++ lineFeed)
+
+abbrev from-opens : tie.Start → List ℕ
+from-opens s = opens s ++ from-space s
+
+abbrev from-witnesses : tie.Start → List ℕ
+from-witnesses s = witnesses s ++ from-opens s
+
+abbrev from-gates : tie.Start → List ℕ
+from-gates s = gates s ++ from-witnesses s
+
+-- what is left at each position
+abbrev LineLeft : tie.Start → List ℕ → ℕ → List ℕ → Type 0
+LineLeft s out here rest = Left (now (s .args .out)) 0 (lastLine (s .args .tally)) out here rest
+
+at-records : (s : tie.Start) → LineLeft s (now (s .args .out)) 0 (records s ++ from-gates s)
+unfolding lastLine
+at-records s = all-left (now (s .args .out)) 0 (lastLine (s .args .tally)) (omega (arith, s .pre .2))
+
+put-decimal-requires : tie.Need-put-decimal-requires
+put-decimal-requires c κs = let s = c .before .before in next-room (records s) (from-gates s) (at-records s)
+
+abbrev start-of : tie.After-put-decimal → tie.Start
+start-of c = c .before .before .before
+
+at-gates : (c : tie.After-put-decimal) → LineLeft (start-of c) (c .put-decimal .last .0) (c .put-decimal .result) (from-gates (start-of c))
+at-gates c = next-left (records (start-of c)) (from-gates (start-of c)) (at-records (start-of c)) (c .put-decimal .ensures)
+
+put-number-requires : tie.Need-put-number-requires
+put-number-requires c κs =
+    let put = c .before .before .before in
+    next-room (gates (start-of put)) (from-witnesses (start-of put)) (at-gates put)
+
+abbrev start-of1 : tie.After-put-number → tie.Start
+start-of1 c = start-of (c .before .before .before .before)
+
+at-witnesses : (c : tie.After-put-number) → LineLeft (start-of1 c) (c .put-number .last .0) (c .put-number .result) (from-witnesses (start-of1 c))
+at-witnesses c = next-left (gates (start-of1 c)) (from-witnesses (start-of1 c)) (at-gates (c .before .before .before .before)) (c .put-number .ensures)
+
+put-number-requires-2 : tie.Need-put-number-requires-2
+put-number-requires-2 c κs =
+    let put = c .before .before .before in
+    next-room (witnesses (start-of1 put)) (from-opens (start-of1 put)) (at-witnesses put)
+
+abbrev start-of2 : tie.After-put-number2 → tie.Start
+start-of2 c = start-of1 (c .before .before .before .before)
+
+at-opens : (c : tie.After-put-number2) → LineLeft (start-of2 c) (c .put-number2 .last .0) (c .put-number2 .result) (from-opens (start-of2 c))
+at-opens c = next-left (witnesses (start-of2 c)) (from-opens (start-of2 c)) (at-witnesses (c .before .before .before .before)) (c .put-number2 .ensures)
+
+put-number-requires-3 : tie.Need-put-number-requires-3
+put-number-requires-3 c κs =
+    let put = c .before .before .before in
+    next-room (opens (start-of2 put)) (from-space (start-of2 put)) (at-opens put)
+
+abbrev start-of3 : tie.After-put-number3 → tie.Start
+start-of3 c = start-of2 (c .before .before .before .before)
+
+at-space : (c : tie.After-put-number3) → LineLeft (start-of3 c) (c .put-number3 .last .0) (c .put-number3 .result) (from-space (start-of3 c))
+at-space c = next-left (opens (start-of3 c)) (from-space (start-of3 c)) (at-opens (c .before .before .before .before)) (c .put-number3 .ensures)
+
+space-inside : (c : tie.After-put-number3) → c .put-number3 .result < length (c .put-number3 .last .0)
+space-inside c = omega (arith, at-space c .room)
+
+slice-write-out : tie.Need-slice-write-out
+slice-write-out c = space-inside (c .before .before)
+
+add-put-mean : tie.Need-add-put-mean
+add-put-mean c = omega (arith, space-inside (c .before .before .before))
+
+at-mean : (c : tie.After-put-number3) → LineLeft (start-of3 c) (set (c .put-number3 .last .0) (c .put-number3 .result) 32) (c .put-number3 .result + 1) (mean (start-of3 c) ++ lineFeed)
+at-mean c =
+    next-left space (mean (start-of3 c) ++ lineFeed) (at-space c) (stored-byte (c .put-number3 .last .0) (c .put-number3 .result) 32 (space-inside c))
+
+put-mean-requires : tie.Need-put-mean-requires
+put-mean-requires c κs =
+    let put = c .before .before .before in
+    let s = start-of3 put in
+    (s .pre .0, s .pre .1, next-room (mean s) lineFeed (at-mean put))
+
+at-end : (c : tie.After-put-mean) → LineLeft (start-of3 (c .before .before .before .before)) (c .put-mean .last .0) (c .put-mean .result) lineFeed
+at-end c =
+    let put = c .before .before .before .before in
+    next-left (mean (start-of3 put)) lineFeed (at-mean put) (c .put-mean .ensures)
+
+end-inside : (c : tie.After-put-mean) → c .put-mean .result < length (c .put-mean .last .0)
+end-inside c = omega (arith, at-end c .room)
+
+slice-write-out-2 : tie.Need-slice-write-out-2
+slice-write-out-2 c = end-inside (c .before .before)
+
+-- the line, with its line feed
+line : (c : tie.After-put-mean)
+    → (let s = start-of3 (c .before .before .before .before) in
+    Written (now (s .args .out)) 0 (lastLine (s .args .tally)) (set (c .put-mean .last .0) (c .put-mean .result) 10) (c .put-mean .result + 1))
+line c = at-end c .done (stored-byte (c .put-mean .last .0) (c .put-mean .result) 10 (end-inside c))
+
+add-result : tie.Need-add-result
+add-result c =
+    let put = c .before .before in
+    let s = start-of3 (put .before .before .before .before) in
+    omega (arith, line put .0, s .pre .2, s .good .0 .0)
+
+returns : tie.Need-returns
+returns c = (omega (arith, line (c .before .before) .0), line (c .before .before) .1)
+
+same-length : tie.Need-same-length
+same-length c =
+    let s = start-of3 (c .before .before .before .before .before .before) in
+    ap length (returns c .1) ∙ written-length (now (s .args .out)) 0 (lastLine (s .args .tally)) (omega (arith, s .pre .2))
+
+pub last-line-spec : {M : Type 1} → statement M
+last-line-spec =
+    tie.close
+    (tie.spec
+    put-decimal-requires
+    put-number-requires
+    put-number-requires-2
+    put-number-requires-3
+    slice-write-out
+    add-put-mean
+    put-mean-requires
+    slice-write-out-2
+    add-result
+    same-length
+    returns)

@@ -1,0 +1,126 @@
+-- `line::put_mean` meets its contract: the whole part, a point and the tenths are written one behind the other, or a dash. Assumes nothing.
+use mathlib.Core.Path.{_≡_, refl, _∙_, ap}
+use mathlib.Core.List.{List, [], _∷_, _++_}
+use Prim.Native.Nat.{ℕ, zero, suc, _+_, _/_, _%_, _<_}
+use native.Mathlib.Omega.{arith}
+use lib.ListN.{length, set}
+use denote.Ref.{now}
+use borrow.Author.Needs.{needs}
+use Rattle.codec.proofs.WrittenLaws.{written-length}
+use Rattle.reporting.specs.Text.{decimal}
+use Rattle.reporting.specs.Lines.{meanTenths, meanText}
+use Rattle.reporting.proofs.LineWriting.{Left, all-left, next-room, next-left, stored-byte}
+use Rattle.reporting.proofs.line.put_mean.Statement.{statement}
+use Rattle.reporting.proofs.line.put_mean.Tie as tie
+
+-- ---- no gates
+
+inside : (c : tie.Then1) → c .before .before .args .at < length (now (c .before .before .args .out))
+inside c = let s = c .before .before in omega (arith, s .pre .2, ap (λ (gates : ℕ). length (meanText gates (s .args .sum))) (c .if1 .taken))
+
+slice-write-out : tie.Need-slice-write-out
+slice-write-out c = inside c
+
+add-result : tie.Need-add-result
+add-result c = search needs
+
+same-length : tie.Need-same-length
+same-length c = search needs
+
+returns : tie.Need-returns
+returns c = let a = c .before .before .args in rw (c .if1 .taken) (stored-byte (now (a .out)) (a .at) 45 (inside c))
+
+-- ---- a mean
+
+mul-tenths : tie.Need-mul-tenths
+mul-tenths c = search needs
+
+add-tenths : tie.Need-add-tenths
+add-tenths c = search needs
+
+mul-tenths-2 : tie.Need-mul-tenths-2
+mul-tenths-2 c = search needs
+
+div-tenths : tie.Need-div-tenths
+div-tenths c = search needs
+
+-- the fields
+abbrev whole : tie.Start → List ℕ
+whole s = decimal (meanTenths (s .args .gates) (s .args .sum) / 10)
+
+abbrev point : List ℕ
+point = 46 ∷ []
+
+abbrev tenths : tie.Start → List ℕ
+tenths s = decimal (meanTenths (s .args .gates) (s .args .sum) % 10)
+
+-- what is left at each position
+abbrev MeanLeft : tie.Start → List ℕ → ℕ → List ℕ → Type 0
+MeanLeft s out here rest = Left (now (s .args .out)) (s .args .at) (meanText (s .args .gates) (s .args .sum)) out here rest
+
+mean-parts : (gates sum : ℕ) → 0 < gates → meanText gates sum ≡ decimal (meanTenths gates sum / 10) ++ (point ++ decimal (meanTenths gates sum % 10))
+mean-parts zero sum h = absurd (omega arith)
+mean-parts (suc gates) sum h = refl
+
+at-whole : (c : tie.Else1) → MeanLeft (c .before .before) (now (c .before .before .args .out)) (c .before .before .args .at) (whole (c .before .before) ++ (point ++ tenths (c .before .before)))
+at-whole c =
+    let s = c .before .before in
+    rw (← mean-parts (s .args .gates) (s .args .sum) (omega arith)) (all-left (now (s .args .out)) (s .args .at) (meanText (s .args .gates) (s .args .sum)) (s .pre .2))
+
+put-decimal-requires : tie.Need-put-decimal-requires
+put-decimal-requires c κs =
+    let s = c .before .before .before in
+    next-room (whole s) (point ++ tenths s) (at-whole (c .before))
+
+at-point : (c : tie.After-put-decimal)
+    → MeanLeft (c .before .before .before .before) (c .put-decimal .last .0) (c .put-decimal .result) (point ++ tenths (c .before .before .before .before))
+at-point c =
+    let s = c .before .before .before .before in
+    next-left (whole s) (point ++ tenths s) (at-whole (c .before .before)) (c .put-decimal .ensures)
+
+point-inside : (c : tie.After-put-decimal) → c .put-decimal .result < length (c .put-decimal .last .0)
+point-inside c = omega (arith, at-point c .room)
+
+slice-write-out-2 : tie.Need-slice-write-out-2
+slice-write-out-2 c = point-inside (c .before .before)
+
+add-put-decimal : tie.Need-add-put-decimal
+add-put-decimal c = omega (arith, point-inside (c .before .before .before))
+
+at-tenths : (c : tie.After-put-decimal)
+    → MeanLeft (c .before .before .before .before) (set (c .put-decimal .last .0) (c .put-decimal .result) 46) (c .put-decimal .result + 1) (tenths (c .before .before .before .before))
+at-tenths c =
+    let s = c .before .before .before .before in
+    next-left point (tenths s) (at-point c) (stored-byte (c .put-decimal .last .0) (c .put-decimal .result) 46 (point-inside c))
+
+put-decimal-requires-2 : tie.Need-put-decimal-requires-2
+put-decimal-requires-2 c κs = at-tenths (c .before .before .before) .room
+
+returns-2 : tie.Need-returns-2
+returns-2 c =
+    let put = c .before .before in
+    at-tenths (put .before .before .before .before) .done (put .put-decimal2 .ensures)
+
+same-length-2 : tie.Need-same-length-2
+same-length-2 c =
+    let s = c .before .before .before .before .before .before .before .before .before .before in
+    ap length (returns-2 c .1) ∙ written-length (now (s .args .out)) (s .args .at) (meanText (s .args .gates) (s .args .sum)) (s .pre .2)
+
+pub put-mean-spec : {M : Type 1} → statement M
+put-mean-spec =
+    tie.close
+    (tie.spec
+    slice-write-out
+    add-result
+    same-length
+    returns
+    mul-tenths
+    add-tenths
+    mul-tenths-2
+    div-tenths
+    put-decimal-requires
+    slice-write-out-2
+    add-put-decimal
+    put-decimal-requires-2
+    same-length-2
+    returns-2)

@@ -1,0 +1,80 @@
+-- `line::put_pair` meets its contract: a pair is its row, a colon and its count, one behind the other, and nothing where the count is 0.
+-- Assumes nothing.
+use mathlib.Core.Path.{sym, _∙_, ap}
+use mathlib.Core.List.{List, [], _∷_, _++_}
+use Prim.Native.Nat.{ℕ, _+_, _<_}
+use native.Mathlib.Omega.{arith}
+use lib.ListN.{length, set}
+use denote.Ref.{now}
+use Rattle.codec.proofs.WrittenLaws.{written-nil, written-length}
+use Rattle.reporting.specs.Text.{decimal, spaced}
+use Rattle.reporting.specs.Lines.{pairText}
+use Rattle.reporting.proofs.LineWriting.{Left, all-left, next-room, next-left, stored-byte}
+use Rattle.reporting.proofs.PairTextLaws.{pair-text}
+use Rattle.reporting.proofs.line.put_pair.Statement.{statement}
+use Rattle.reporting.proofs.line.put_pair.Tie as tie
+
+returns : tie.Need-returns
+returns c =
+    let a = c .before .before .args in
+    rw (c .if1 .taken) (omega arith, sym (written-nil (now (a .out)) (a .at)))
+
+-- what is left at each position, of a pair whose count is not 0
+abbrev PairLeft : tie.Else1 → List ℕ → ℕ → List ℕ → Type 0
+PairLeft c out here rest =
+    let a = c .before .before .args in
+    Left (now (a .out)) (a .at) (pairText (a .row) (a .count)) out here rest
+
+abbrev row-text : tie.Else1 → List ℕ
+row-text c = spaced (decimal (c .before .before .args .row))
+
+abbrev count-text : tie.Else1 → List ℕ
+count-text c = decimal (c .before .before .args .count)
+
+at-row : (c : tie.Else1) → PairLeft c (now (c .before .before .args .out)) (c .before .before .args .at) (row-text c ++ (58 ∷ count-text c))
+at-row c =
+    let a = c .before .before .args in
+    rw (← pair-text (a .row) (a .count) (omega arith)) (all-left (now (a .out)) (a .at) (pairText (a .row) (a .count)) (c .before .before .pre))
+
+at-colon : (c : tie.After-put-number) → PairLeft (c .before .before) (c .put-number .last .0) (c .put-number .result) ((58 ∷ []) ++ count-text (c .before .before))
+at-colon c = let branch = c .before .before in next-left (row-text branch) (58 ∷ count-text branch) (at-row branch) (c .put-number .ensures)
+
+colon-inside : (c : tie.After-put-number) → c .put-number .result < length (c .put-number .last .0)
+colon-inside c = omega (arith, next-room (58 ∷ []) (count-text (c .before .before)) (at-colon c))
+
+at-count : (c : tie.After-put-number)
+    → PairLeft (c .before .before) (set (c .put-number .last .0) (c .put-number .result) 58) (c .put-number .result + 1) (count-text (c .before .before))
+at-count c = next-left (58 ∷ []) (count-text (c .before .before)) (at-colon c) (stored-byte (c .put-number .last .0) (c .put-number .result) 58 (colon-inside c))
+
+put-number-requires : tie.Need-put-number-requires
+put-number-requires c κs = next-room (row-text (c .before)) (58 ∷ count-text (c .before)) (at-row (c .before))
+
+slice-write-out : tie.Need-slice-write-out
+slice-write-out c = omega (arith, colon-inside (c .before .before))
+
+add-put-decimal : tie.Need-add-put-decimal
+add-put-decimal c = omega (arith, colon-inside (c .before .before .before))
+
+put-decimal-requires : tie.Need-put-decimal-requires
+put-decimal-requires c κs = at-count (c .before .before .before) .room
+
+returns-2 : tie.Need-returns-2
+returns-2 c = at-count (c .before .before .before .before .before .before) .done (c .before .before .put-decimal .ensures)
+
+same-length : tie.Need-same-length
+same-length c =
+    let start = c .before .before .before .before .before .before .before .before .before .before in
+    let a = start .args in
+    ap length (returns-2 c .1) ∙ written-length (now (a .out)) (a .at) (pairText (a .row) (a .count)) (start .pre)
+
+pub put-pair-spec : {M : Type 1} → statement M
+put-pair-spec =
+    tie.close
+    (tie.spec
+    returns
+    put-number-requires
+    slice-write-out
+    add-put-decimal
+    put-decimal-requires
+    same-length
+    returns-2)

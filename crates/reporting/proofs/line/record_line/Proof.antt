@@ -1,0 +1,101 @@
+-- `line::record_line` meets its contract: the position, n, the verdict and a line feed are written one behind the other. Assumes nothing.
+use mathlib.Core.Path.{_∙_, ap}
+use mathlib.Core.List.{List, _++_}
+use Prim.Native.Nat.{ℕ, _<_}
+use native.Mathlib.Omega.{arith}
+use lib.ListN.{length}
+use denote.Ref.{now}
+use borrow.Author.Needs.{needs}
+use Rattle.codec.proofs.WrittenLaws.{written-length}
+use Rattle.reporting.specs.Text.{decimal, spaced, lineFeed}
+use Rattle.reporting.specs.Lines.{verdictText, recordLine}
+use Rattle.reporting.proofs.LineWriting.{Left, all-left, next-room, next-left, stored-byte}
+use Rattle.reporting.proofs.line.record_line.Statement.{statement}
+use Rattle.reporting.proofs.line.record_line.Tie as tie
+
+-- the fields, and the line from n on
+abbrev position-text : tie.Start → List ℕ
+position-text s = decimal (s .args .position)
+
+abbrev n-text : tie.Start → List ℕ
+n-text s = spaced (decimal (s .args .job .table .n))
+
+abbrev verdict : tie.Start → List ℕ
+verdict s = verdictText (s .args .job .stage) (s .args .job)
+
+abbrev from-n : tie.Start → List ℕ
+from-n s = n-text s ++ (verdict s ++ lineFeed)
+
+-- what is left at each position
+abbrev LineLeft : tie.Start → List ℕ → ℕ → List ℕ → Type 0
+LineLeft s out here rest = Left (now (s .args .out)) 0 (recordLine (s .args .position) (s .args .job)) out here rest
+
+at-position : (s : tie.Start) → LineLeft s (now (s .args .out)) 0 (position-text s ++ from-n s)
+unfolding recordLine
+at-position s = all-left (now (s .args .out)) 0 (recordLine (s .args .position) (s .args .job)) (omega (arith, s .pre .1))
+
+put-decimal-requires : tie.Need-put-decimal-requires
+put-decimal-requires c κs = next-room (position-text (c .before .before)) (from-n (c .before .before)) (at-position (c .before .before))
+
+at-n : (c : tie.After-put-decimal) → LineLeft (c .before .before .before) (c .put-decimal .last .0) (c .put-decimal .result) (from-n (c .before .before .before))
+at-n c = let s = c .before .before .before in next-left (position-text s) (from-n s) (at-position s) (c .put-decimal .ensures)
+
+cast-put-number : tie.Need-cast-put-number
+cast-put-number c = search needs
+
+put-number-requires : tie.Need-put-number-requires
+put-number-requires c κs =
+    let number = c .before .before .before .before in
+    let s = number .before .before .before in
+    next-room (n-text s) (verdict s ++ lineFeed) (at-n number)
+
+abbrev start-of : tie.After-put-number → tie.Start
+start-of c = c .before .before .before .before .before .before .before .before
+
+at-verdict : (c : tie.After-put-number) → LineLeft (start-of c) (c .put-number .last .0) (c .put-number .result) (verdict (start-of c) ++ lineFeed)
+at-verdict c =
+    let s = start-of c in
+    next-left (n-text s) (verdict s ++ lineFeed) (at-n (c .before .before .before .before .before)) (c .put-number .ensures)
+
+put-verdict-requires : tie.Need-put-verdict-requires
+put-verdict-requires c κs =
+    let number = c .before .before .before in
+    (start-of number .pre .0, next-room (verdict (start-of number)) lineFeed (at-verdict number))
+
+at-end : (c : tie.After-put-verdict) → LineLeft (start-of (c .before .before .before .before)) (c .put-verdict .last .0) (c .put-verdict .result) lineFeed
+at-end c =
+    let number = c .before .before .before .before in
+    next-left (verdict (start-of number)) lineFeed (at-verdict number) (c .put-verdict .ensures)
+
+end-inside : (c : tie.After-put-verdict) → c .put-verdict .result < length (c .put-verdict .last .0)
+end-inside c = omega (arith, at-end c .room)
+
+slice-write-out : tie.Need-slice-write-out
+slice-write-out c = end-inside (c .before .before)
+
+add-result : tie.Need-add-result
+add-result c = omega (arith, end-inside (c .before .before))
+
+returns : tie.Need-returns
+returns c =
+    let wrote = c .before .before in
+    let line = at-end wrote .done (stored-byte (wrote .put-verdict .last .0) (wrote .put-verdict .result) 10 (end-inside wrote)) in
+    (omega (arith, line .0), line .1)
+
+same-length : tie.Need-same-length
+same-length c =
+    let s = start-of (c .before .before .before .before .before .before) in
+    ap length (returns c .1) ∙ written-length (now (s .args .out)) 0 (recordLine (s .args .position) (s .args .job)) (omega (arith, s .pre .1))
+
+pub record-line-spec : {M : Type 1} → statement M
+record-line-spec =
+    tie.close
+    (tie.spec
+    put-decimal-requires
+    cast-put-number
+    put-number-requires
+    put-verdict-requires
+    slice-write-out
+    add-result
+    same-length
+    returns)

@@ -1,0 +1,199 @@
+// The lines of a report, each made at the start of a lent buffer. The functions return its length.
+use crate::tally::Tally;
+use crate::text::put_decimal;
+use crate::text::put_letter;
+use crate::text::put_number;
+use crate::text::put_signed;
+use job::job::Job;
+use job::job::Stage;
+use machine::vector::Vector;
+use table::table::Table;
+use table::table::row_count;
+use table::table::row_value;
+ghost use mathlib.Core.Path.{_≡_};
+ghost use Prim.Native.Nat.{_+_, _*_, _≤_};
+ghost use lib.ListN.{length};
+ghost use Rattle.codec.specs.Field.{writtenAt};
+ghost use Rattle.reporting.specs.Lines.{size, weightsText, gateText, height, pairText, pairsText, witnessText, verdictText, recordLine, refusalLine, tooLongLine, meanText, lastLine};
+
+// Returns the sum of the weights plus T.
+fn size_of(v: Vector) -> i64
+    ensures { λ r. ⌜ r ≡ size v ⌝ }
+{
+    let a = v.a;
+    let mut sum: i64 = 0;
+    let mut place: usize = 0;
+    while place < 8 {
+        sum = sum + a[place] as i64;
+        place = place + 1;
+    }
+    sum + v.b as i64
+}
+
+// Writes n weights.
+fn put_weights(out: &mut [u8], at: usize, a: [i32; 8], n: u8) -> usize
+    requires { ⌜ (n ≤ 8) × (at + length (weightsText a n 0) ≤ length (now out)) ⌝ }
+    ensures { λ r. ⌜ (r ≡ at + length (weightsText a n 0)) × (now (out .exit) ≡ writtenAt (now (out .entry)) at (weightsText a n 0)) ⌝ }
+{
+    let mut here = at;
+    let mut place: usize = 0;
+    while place < n as usize {
+        here = put_signed(out, here, a[place] as i64);
+        place = place + 1;
+    }
+    here
+}
+
+// Writes G, K, size, weights and T.
+fn put_gate(out: &mut [u8], at: usize, n: u8, k: u32, v: Vector) -> usize
+    requires { ⌜ (n ≤ 8) × (at + length (gateText n k v) ≤ length (now out)) ⌝ }
+    ensures { λ r. ⌜ (r ≡ at + length (gateText n k v)) × (now (out .exit) ≡ writtenAt (now (out .entry)) at (gateText n k v)) ⌝ }
+{
+    let a = v.a;
+    let mut here = put_letter(out, at, b'G');
+    here = put_number(out, here, k as u64);
+    here = put_signed(out, here, size_of(v));
+    here = put_weights(out, here, a, n);
+    put_signed(out, here, v.b as i64)
+}
+
+// Returns the sum of count × true inputs over true rows. The true inputs of a row are counted in the bits of its number.
+fn height_of(table: Table, counts: [u32; 256]) -> u64
+    requires { ⌜ table .n ≤ 8 ⌝ }
+    ensures { λ r. ⌜ r ≡ height table counts ⌝ }
+{
+    let rows = row_count(table.n);
+    let mut sum: u64 = 0;
+    let mut row: usize = 0;
+    while row < rows {
+        if row_value(table, row) {
+            sum = sum + counts[row] as u64 * u32::count_ones(row as u32) as u64;
+        }
+        row = row + 1;
+    }
+    sum
+}
+
+// Writes the pair of a row, or nothing if its count is 0.
+fn put_pair(out: &mut [u8], at: usize, row: u64, count: u32) -> usize
+    requires { ⌜ at + length (pairText row count) ≤ length (now out) ⌝ }
+    ensures { λ r. ⌜ (r ≡ at + length (pairText row count)) × (now (out .exit) ≡ writtenAt (now (out .entry)) at (pairText row count)) ⌝ }
+{
+    if count == 0 {
+        return at;
+    }
+    let middle = put_number(out, at, row);
+    out[middle] = b':';
+    put_decimal(out, middle + 1, count as u64)
+}
+
+// Writes the pairs of so many rows.
+fn put_pairs(out: &mut [u8], at: usize, counts: [u32; 256], rows: usize) -> usize
+    requires { ⌜ (rows ≤ 256) × (at + length (pairsText counts rows 0) ≤ length (now out)) ⌝ }
+    ensures { λ r. ⌜ (r ≡ at + length (pairsText counts rows 0)) × (now (out .exit) ≡ writtenAt (now (out .entry)) at (pairsText counts rows 0)) ⌝ }
+{
+    let mut here = at;
+    let mut row: usize = 0;
+    while row < rows {
+        here = put_pair(out, here, row as u64, counts[row]);
+        row = row + 1;
+    }
+    here
+}
+
+// Writes N, K, height and pairs.
+fn put_witness(out: &mut [u8], at: usize, table: Table, k: u32, counts: [u32; 256]) -> usize
+    requires { ⌜ (table .n ≤ 8) × (at + length (witnessText table k counts) ≤ length (now out)) ⌝ }
+    ensures { λ r. ⌜ (r ≡ at + length (witnessText table k counts)) × (now (out .exit) ≡ writtenAt (now (out .entry)) at (witnessText table k counts)) ⌝ }
+{
+    let mut here = put_letter(out, at, b'N');
+    here = put_number(out, here, k as u64);
+    here = put_number(out, here, height_of(table, counts));
+    put_pairs(out, here, counts, row_count(table.n))
+}
+
+// Writes what a job's stage has to say.
+fn put_verdict(out: &mut [u8], at: usize, job: Job) -> usize
+    requires { ⌜ (job .table .n ≤ 8) × (at + length (verdictText (job .stage) job) ≤ length (now out)) ⌝ }
+    ensures { λ r. ⌜ (r ≡ at + length (verdictText (job .stage) job)) × (now (out .exit) ≡ writtenAt (now (out .entry)) at (verdictText (job .stage) job)) ⌝ }
+{
+    let table = job.table;
+    let counts = job.counts;
+    let stage = job.stage;
+    match stage {
+        Stage::Open => {
+            let here = put_letter(out, at, b'S');
+            put_number(out, here, job.k as u64)
+        }
+        Stage::Found => put_gate(out, at, table.n, job.k, job.v),
+        Stage::Looped => put_witness(out, at, table, job.k, counts),
+        Stage::Binate => put_witness(out, at, table, job.k, counts),
+    }
+}
+
+// Makes the line of a record: position, n, then G, N or S.
+pub fn record_line(out: &mut [u8], position: u64, job: Job) -> usize
+    requires { ⌜ (job .table .n ≤ 8) × (length (recordLine position job) ≤ length (now out)) ⌝ }
+    ensures { λ r. ⌜ (r ≡ length (recordLine position job)) × (now (out .exit) ≡ writtenAt (now (out .entry)) 0 (recordLine position job)) ⌝ }
+{
+    let mut here = put_decimal(out, 0, position);
+    here = put_number(out, here, job.table.n as u64);
+    here = put_verdict(out, here, job);
+    out[here] = b'\n';
+    here + 1
+}
+
+// Makes the line of a refusal: position, R, number.
+pub fn refusal_line(out: &mut [u8], position: u64, number: u8) -> usize
+    requires { ⌜ length (refusalLine position number) ≤ length (now out) ⌝ }
+    ensures { λ r. ⌜ (r ≡ length (refusalLine position number)) × (now (out .exit) ≡ writtenAt (now (out .entry)) 0 (refusalLine position number)) ⌝ }
+{
+    let mut here = put_decimal(out, 0, position);
+    here = put_letter(out, here, b'R');
+    here = put_number(out, here, number as u64);
+    out[here] = b'\n';
+    here + 1
+}
+
+// Writes the mean of K in tenths, half up, or "-" if there is none.
+fn put_mean(out: &mut [u8], at: usize, gates: u64, sum: u64) -> usize
+    requires { ⌜ (gates ≤ 65536) × (sum ≤ 65536000000) × (at + length (meanText gates sum) ≤ length (now out)) ⌝ }
+    ensures { λ r. ⌜ (r ≡ at + length (meanText gates sum)) × (now (out .exit) ≡ writtenAt (now (out .entry)) at (meanText gates sum)) ⌝ }
+{
+    if gates == 0 {
+        out[at] = b'-';
+        return at + 1;
+    }
+    let tenths = (20 * sum + gates) / (2 * gates);
+    let point = put_decimal(out, at, tenths / 10);
+    out[point] = b'.';
+    put_decimal(out, point + 1, tenths % 10)
+}
+
+// Makes the last line: records read whole, the numbers of G, N and S, and the mean.
+pub fn last_line(out: &mut [u8], tally: Tally) -> usize
+    requires { ⌜ (tally .gates ≤ 65536) × (tally .sum ≤ 65536000000) × (length (lastLine tally) ≤ length (now out)) ⌝ }
+    ensures { λ r. ⌜ (r ≡ length (lastLine tally)) × (now (out .exit) ≡ writtenAt (now (out .entry)) 0 (lastLine tally)) ⌝ }
+{
+    let mut here = put_decimal(out, 0, tally.records);
+    here = put_number(out, here, tally.gates);
+    here = put_number(out, here, tally.witnesses);
+    here = put_number(out, here, tally.opens);
+    out[here] = b' ';
+    here = put_mean(out, here + 1, tally.gates, tally.sum);
+    out[here] = b'\n';
+    here + 1
+}
+
+// Makes the only line of an input that is too long.
+pub fn too_long_line(out: &mut [u8]) -> usize
+    requires { ⌜ 5 ≤ length (now out) ⌝ }
+    ensures { λ r. ⌜ (r ≡ 5) × (now (out .exit) ≡ writtenAt (now (out .entry)) 0 tooLongLine) ⌝ }
+{
+    out[0] = b'R';
+    out[1] = b' ';
+    out[2] = b'1';
+    out[3] = b'5';
+    out[4] = b'\n';
+    5
+}

@@ -1,0 +1,6 @@
+// What the test programs on jobs and records share: jobs from lines of text, whether two are the same, the numbers that calls give,
+// and parts of slices.
+pub mod compare;
+pub mod make;
+pub mod parts;
+pub mod tally;
