@@ -10,8 +10,8 @@ use borrow.Rule.Slice.PartMut.{mid-len, same-len-mid}
 use borrow.Author.Needs.{needs}
 use Rattle.reporting.specs.Report.{Bounded}
 use Rattle.reporting.proofs.ReportLaws.{bounded-start}
-use Rattle.report.proofs.print_lines.Statement.{statement}
-use Rattle.report.proofs.print_lines.Tie as tie
+use Rattle.printing.proofs.report.print_lines.Statement.{statement}
+use Rattle.printing.proofs.report.print_lines.Tie as tie
 
 abbrev Inv-loop : tie.InvT-loop
 Inv-loop input out₀ used₀ progress₀ left₀ out used progress left = (length out ≡ 65536) × (used ≤ 65536) × Bounded progress × (left ≤ 65538)

@@ -1,0 +1,2 @@
+// Prints a report on standard output.
+pub mod report;

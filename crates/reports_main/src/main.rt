@@ -1,0 +1,23 @@
+// Prints the reports of inputs: whole records, a refusal of each number, means on a half, and the longest input. Each comes after a line
+// that names and spells the input.
+mod input;
+mod inputs;
+
+use vectors::line::line_end;
+
+// Runs each line.
+fn run(lines: &[u8]) {
+    let mut at: usize = 0;
+    while at < lines.len() {
+        let end = line_end(lines, at);
+        input::run(&lines[at..end]);
+        at = end + 1;
+    }
+}
+
+fn main() {
+    run(&inputs::WHOLE);
+    run(&inputs::REFUSED);
+    run(&inputs::MEANS);
+    run(&inputs::LONG);
+}
