@@ -1,0 +1,119 @@
+-- The jobs whose outcome is written keep their rules: the job of a table after one carry-on, and a job that was carried on. Assumes
+-- nothing.
+use mathlib.Core.Path.{_≡_, refl, sym, _∙_, ap, subst}
+use mathlib.Core.Logic.{_≢_}
+use mathlib.Core.List.{[], _∷_}
+use Prim.Native.Nat.{ℕ, _+_, _≤_}
+use native.Mathlib.Omega.{arith}
+use borrow.Author.Tests.{le-ltb, ltb-false}
+use Rattle.table.specs.declared.table.Table.{Table}
+use Rattle.cell.specs.Refusal.{Answered, answered, refused, checked, NoneBroken, none, also}
+use Rattle.cell.specs.Calls.{tableRules}
+use Rattle.cell.proofs.RefusalLaws.{none-broken-answered, answered-none-broken}
+use Rattle.cell.proofs.TableChecked.{kept-inputs, table-kept}
+use Rattle.cell.specs.declared.refusal.Status.the-variants as Status′
+use Rattle.job.specs.declared.job.Job.{Job}
+use Rattle.job.specs.declared.job.Carried.{Carried}
+use Rattle.job.specs.declared.job.Stage.{Stage}
+use Rattle.job.specs.declared.job.Stage.the-variants.{Open}
+use Rattle.job.specs.Machine.{run, fresh}
+use Rattle.job.specs.Sound.{cap, Sound}
+use Rattle.job.specs.Calls.{callBudget, freshJob, jobRules, budgetRange, pastCap, ifOpen, carryOn, carried}
+use Rattle.job.proofs.MachineLaws.{fresh-table, fresh-k, open-or-ended, run-ended, run-table}
+use Rattle.job.proofs.SoundLaws.{is-sound-correct}
+use Rattle.job.proofs.FreshSound.{fresh-sound}
+use Rattle.job.proofs.Soundness.{run-sound-from}
+use Rattle.job.proofs.JobChecked.{kept-sound, job-others-kept, job-all-kept, if-open-ended}
+
+-- a run of a job that keeps its rules keeps them, as long as K cannot pass the cap
+run-kept : (j : Job) (m : ℕ) → NoneBroken (tableRules (j .table) []) → Sound j → j .k + m ≤ cap
+    → NoneBroken (jobRules (run m j) [])
+run-kept j m kept sound l =
+    let after = run-sound-from j (kept-inputs (j .table) kept) sound m l in
+    job-all-kept (run m j) (rw (run-table m j) kept) (is-sound-correct (run m j) .1 after) none
+
+-- ---- one carry-on of a fresh job
+
+module _ (t : Table) (kept : NoneBroken (tableRules t [])) where
+  -- the table is taken
+  pub fresh-is : freshJob t ≡ answered (fresh t)
+  fresh-is = none-broken-answered (tableRules t []) (answered (fresh t)) kept
+
+  fresh-kept : NoneBroken (tableRules ((fresh t) .table) [])
+  fresh-kept = rw (fresh-table t) kept
+
+  sound : Sound (fresh t)
+  sound = fresh-sound t (kept-inputs t kept)
+
+  -- and so is the carry-on
+  pub decided-is : carryOn (fresh t) callBudget ≡ answered (run callBudget (fresh t))
+  decided-is =
+      let rules = job-all-kept (fresh t) fresh-kept (is-sound-correct (fresh t) .1 sound) (also refl none) in
+      none-broken-answered (jobRules (fresh t) (budgetRange callBudget ∷ [])) later rules ∙ by (open-or-ended ((fresh t) .stage))
+    where
+      below : Answered Job
+      below = checked (pastCap (fresh t) callBudget ∷ []) (answered (run callBudget (fresh t)))
+
+      later : Answered Job
+      later = ifOpen ((fresh t) .stage) below (answered (fresh t))
+
+      by : Dec ((fresh t) .stage ≡ Open) → later ≡ answered (run callBudget (fresh t))
+      by (yes e) = rw (e, le-ltb cap ((fresh t) .k + callBudget) (omega (arith, fresh-k t)))
+      by (no e) = sym (if-open-ended ((fresh t) .stage) below (answered (fresh t)) e) ∙ ap answered (sym (run-ended callBudget (fresh t) e))
+
+  -- the job keeps its rules
+  pub decided-kept : NoneBroken (jobRules (run callBudget (fresh t)) [])
+  decided-kept = run-kept (fresh t) callBudget fresh-kept sound (omega (arith, fresh-k t))
+
+-- ---- a carry-on
+
+-- r is what the call returned for the job j, a what it comes to
+module _ (j : Job) (a : Answered Job) {r : Carried} (says : r ≡ carried j a) where
+  -- a refusal
+  pub carried-refused : {n : ℕ} → r .status ≡ Status′.Refused n → refused n ≡ a
+  carried-refused {n} e = by a (ap (λ (x : Carried). x .status) (sym says) ∙ e)
+    where
+      by : (x : Answered Job) → carried j x .status ≡ Status′.Refused n → refused n ≡ x
+      by (answered next) q = let z : _≡_ {A = ℕ} 0 1 = cc in absurd (omega arith)
+      by (refused m) q = cc
+
+  -- else the job after the call
+  pub carried-done : r .status ≡ Status′.Done → a ≡ answered (r .job)
+  carried-done e = by a (ap (λ (x : Carried). x .status) (sym says) ∙ e) ∙ ap (λ (x : Carried). answered (x .job)) (sym says)
+    where
+      by : (x : Answered Job) → carried j x .status ≡ Status′.Done → x ≡ answered (carried j x .job)
+      by (answered next) q = refl
+      by (refused m) q = let z : _≡_ {A = ℕ} 0 1 = cc in absurd (omega arith)
+
+module _ (j next : Job) (b : ℕ) where
+  abbrev below : Answered Job
+  below = checked (pastCap j b ∷ []) (answered (run b j))
+
+  -- an open job that is carried on: no rule is broken
+  opened : (x : Stage) → x ≡ Open → checked (jobRules j (budgetRange b ∷ [])) (ifOpen x below (answered j)) ≡ answered next
+      → NoneBroken (jobRules j (budgetRange b ∷ pastCap j b ∷ [])) × (run b j ≡ next)
+  opened x o e = answered-none-broken (jobRules j (budgetRange b ∷ pastCap j b ∷ [])) (run b j) next (rw o at e)
+
+  -- an ended job stays as it is
+  ended : (x : Stage) → x ≢ Open → checked (jobRules j (budgetRange b ∷ [])) (ifOpen x below (answered j)) ≡ answered next
+      → NoneBroken (jobRules j (budgetRange b ∷ [])) × (j ≡ next)
+  ended x h e =
+      answered-none-broken (jobRules j (budgetRange b ∷ [])) j next
+      (ap (checked (jobRules j (budgetRange b ∷ []))) (if-open-ended x below (answered j) h) ∙ e)
+
+  capped : NoneBroken (budgetRange b ∷ pastCap j b ∷ []) → j .k + b ≤ cap
+  capped (also budget (also past end)) = ltb-false cap (j .k + b) past
+
+  -- the job after the call keeps its rules
+  pub carried-kept : carryOn j b ≡ answered next → NoneBroken (jobRules next [])
+  carried-kept e = by (open-or-ended (j .stage))
+    where
+      by : Dec (j .stage ≡ Open) → NoneBroken (jobRules next [])
+      by (yes o) =
+          let (kept, same) = opened (j .stage) o e in
+          let after = run-kept j b (table-kept (j .table) kept) (kept-sound j kept) (capped (job-others-kept j kept)) in
+          subst (λ (x : Job). NoneBroken (jobRules x [])) same after
+      by (no h) =
+          let (kept, same) = ended (j .stage) h e in
+          let after = job-all-kept j (table-kept (j .table) kept) (is-sound-correct j .1 (kept-sound j kept)) none in
+          subst (λ (x : Job). NoneBroken (jobRules x [])) same after

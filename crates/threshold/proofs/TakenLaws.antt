@@ -1,0 +1,93 @@
+-- What was read of bytes: the record that its kind says, and what a call on a table or on a job comes to on it. Assumes nothing.
+use mathlib.Core.Path.{_≡_, refl, sym, _∙_, ap}
+use mathlib.Core.Logic.{⊎-elim}
+use mathlib.Core.List.{List, [], _∷_}
+use Prim.Native.Nat.{ℕ}
+use native.Mathlib.Omega.{arith}
+use lib.ListN.{length}
+use denote.Enum.Declared.{tagOf}
+use types.Run.{OneOf}
+use Rattle.table.specs.declared.table.Table.{Table}
+use Rattle.cell.specs.Refusal.{Answered, answered, refused, NoneBroken}
+use Rattle.cell.specs.Calls.{tableRules}
+use Rattle.cell.proofs.RefusalLaws.{answered-none-broken}
+use Rattle.cell.proofs.TableChecked.{table-kept}
+use Rattle.job.specs.declared.job.Job.{Job}
+use Rattle.codec.proofs.StandsLaws.{AllBytes}
+use Rattle.records.specs.declared.read.Kind.{Kind}
+use Rattle.records.specs.declared.read.Kind.the-variants as Kind′
+use Rattle.records.specs.declared.read.Read.{Read}
+use Rattle.records.specs.Record.{Record, ofTable, ofGate, ofWitness, ofJob, recordBytes, readRecord}
+use Rattle.records.specs.Calls.{tooShort, recordRules, asRead}
+use Rattle.records.proofs.WriteBack.{write-back}
+use Rattle.records.proofs.read.Kind.{the-type}
+use Rattle.threshold.specs.Result.{andThen, numberFor}
+use Rattle.threshold.specs.Interface.{tableIn, jobIn, tableRead, jobRead}
+
+-- the record of a kind, from the parts that were read
+abbrev pub recordOf : Kind → Read → Answered Record
+recordOf Kind′.Table r = answered (ofTable (r .table))
+recordOf Kind′.Gate r = answered (ofGate (r .table) (r .gate))
+recordOf Kind′.Witness r = answered (ofWitness (r .table) (r .witness))
+recordOf Kind′.Job r = answered (ofJob (r .job))
+recordOf (Kind′.Refused n) r = refused n
+
+from-parts : (a : Answered Record) → a ≡ recordOf (asRead a .kind) (asRead a)
+from-parts (answered (ofTable t)) = refl
+from-parts (answered (ofGate t g)) = refl
+from-parts (answered (ofWitness t w)) = refl
+from-parts (answered (ofJob j)) = refl
+from-parts (refused n) = refl
+
+-- r is what was read of the bytes s
+module _ (s : List ℕ) {r : Read} (says : r ≡ asRead (readRecord s)) where
+  -- they mean the record that the kind says
+  pub read-as : {k : Kind} → r .kind ≡ k → readRecord s ≡ recordOf k r
+  read-as e = from-parts (readRecord s) ∙ ap (λ (x : Read). recordOf (x .kind) x) (sym says) ∙ ap (λ (k : Kind). recordOf k r) e
+
+  -- ---- a call on a table
+
+  -- on another kind it is refused
+  pub no-table : OneOf (1 ∷ 2 ∷ 3 ∷ 4 ∷ []) (tagOf the-type (r .kind)) → {A : Type 0} (later : Table → Answered A)
+      → refused (numberFor (r .kind)) ≡ andThen (tableRead s) later
+  no-table other later =
+      let same = by (r .kind) other ∙ ap (λ (x : Answered Record). andThen x tableIn) (sym (read-as refl)) in
+      ap (λ (t : Answered Table). andThen t later) same
+    where
+      by : (k : Kind) → OneOf (1 ∷ 2 ∷ 3 ∷ 4 ∷ []) (tagOf the-type k) → refused (numberFor k) ≡ andThen (recordOf k r) tableIn
+      by Kind′.Table o = absurd (⊎-elim (λ e. omega arith) (⊎-elim (λ e. omega arith) (⊎-elim (λ e. omega arith) (λ e. omega arith))) o)
+      by Kind′.Gate o = refl
+      by Kind′.Witness o = refl
+      by Kind′.Job o = refl
+      by (Kind′.Refused n) o = refl
+
+  -- else it is what comes after the table
+  pub with-table : r .kind ≡ Kind′.Table → {A : Type 0} (later : Table → Answered A) → later (r .table) ≡ andThen (tableRead s) later
+  with-table e later = ap (λ (x : Answered Record). andThen (andThen x tableIn) later) (sym (read-as e))
+
+  -- which keeps its format, since a record that was read keeps the rules of a writer
+  pub table-taken : AllBytes s → r .kind ≡ Kind′.Table → NoneBroken (tableRules (r .table) [])
+  table-taken bytes e =
+      let x = ofTable (r .table) in
+      let written = write-back s bytes x (read-as e) (length s) (omega arith) in
+      table-kept (r .table) (answered-none-broken (recordRules x (tooShort (length s) (recordBytes x) ∷ [])) (recordBytes x) s written .0)
+
+  -- ---- a call on a job
+
+  -- on another kind it is refused
+  pub no-job : OneOf (0 ∷ 1 ∷ 2 ∷ 4 ∷ []) (tagOf the-type (r .kind)) → {A : Type 0} (later : Job → Answered A)
+      → refused (numberFor (r .kind)) ≡ andThen (jobRead s) later
+  no-job other later =
+      let same = by (r .kind) other ∙ ap (λ (x : Answered Record). andThen x jobIn) (sym (read-as refl)) in
+      ap (λ (j : Answered Job). andThen j later) same
+    where
+      by : (k : Kind) → OneOf (0 ∷ 1 ∷ 2 ∷ 4 ∷ []) (tagOf the-type k) → refused (numberFor k) ≡ andThen (recordOf k r) jobIn
+      by Kind′.Table o = refl
+      by Kind′.Gate o = refl
+      by Kind′.Witness o = refl
+      by Kind′.Job o = absurd (⊎-elim (λ e. omega arith) (⊎-elim (λ e. omega arith) (⊎-elim (λ e. omega arith) (λ e. omega arith))) o)
+      by (Kind′.Refused n) o = refl
+
+  -- else it is what comes after the job
+  pub with-job : r .kind ≡ Kind′.Job → {A : Type 0} (later : Job → Answered A) → later (r .job) ≡ andThen (jobRead s) later
+  with-job e later = ap (λ (x : Answered Record). andThen (andThen x jobIn) later) (sym (read-as e))

@@ -1,0 +1,101 @@
+-- `outcome::put_outcome` meets its contract: the length is at most 2,048, so it is a signed number of 64 bits. Assumes nothing.
+use mathlib.Core.Path.{_≡_, sym, _∙_, ap}
+use mathlib.Core.List.{List}
+use Prim.Native.Nat.{ℕ, _≤_}
+use native.Mathlib.Omega.{arith}
+use lib.ListN.{length}
+use lib.IntN.{pos}
+use mir.Syntax.{w64}
+use mir.Val.{toZ}
+use mir.Facts.{toZ-pos}
+use borrow.Author.Needs.{needs}
+use Rattle.numbers.proofs.Int.{back}
+use Rattle.numbers.proofs.Widths.{size-fits}
+use Rattle.cell.specs.Refusal.{Answered}
+use Rattle.cell.proofs.TableChecked.{kept-inputs}
+use Rattle.records.specs.declared.write.Written.the-variants as Written′
+use Rattle.records.specs.Record.{recordBytes}
+use Rattle.records.specs.Calls.{written}
+use Rattle.threshold.specs.Result.{asResult, measured}
+use Rattle.threshold.specs.Interface.{outcome, outcomeWritten}
+use Rattle.threshold.proofs.ResultLaws.{written-refused, written-length, fitted-length}
+use Rattle.threshold.proofs.OutcomeLaws.{outcome-most}
+use Rattle.threshold.proofs.outcome.put_outcome.Statement.{statement}
+use Rattle.threshold.proofs.outcome.put_outcome.Tie as tie
+
+write-outcome-requires : tie.Need-write-outcome-requires
+write-outcome-requires c κs = search needs
+
+module _ (c : tie.After-write-outcome) where
+  abbrev start : tie.Start
+  start = c .before .before .before
+
+  -- what is written
+  abbrev bytes : List ℕ
+  bytes = recordBytes (outcome (start .args .job))
+
+  abbrev call : Answered (List ℕ)
+  call = outcomeWritten (length (start .args .out .now)) (start .args .job)
+
+-- ---- a length
+
+enum-known-answer : tie.Need-enum-known-answer
+enum-known-answer c = search needs
+
+module _ (c : tie.After-answer) where
+  abbrev wrote : tie.After-write-outcome
+  wrote = c .before .before .before .before
+
+  length-known : written (call wrote) ≡ Written′.Bytes (c .answer .given .0 .0)
+  length-known = sym (wrote .write-outcome .ensures .0) ∙ c .answer .given .1
+
+  small : c .answer .given .0 .0 ≤ 2048
+  small =
+      let s = start wrote in
+      let most = outcome-most (s .args .job) (kept-inputs (s .args .job .table) (s .pre)) in
+      omega (arith, fitted-length (length (s .args .out .now)) (bytes wrote) length-known, most)
+
+cast-result : tie.Need-cast-result
+cast-result c = size-fits (omega (arith, small (c .before)))
+
+same-length : tie.Need-same-length
+same-length c = search needs
+
+returns : tie.Need-returns
+returns c =
+    let at = c .before in
+    let value : toZ w64 (at .answer .given .0 .0) ≡ pos (at .answer .given .0 .0) = toZ-pos w64 (omega (arith, small at)) in
+    (value ∙ ap asResult (written-length (call (wrote at)) (length-known at)), wrote at .write-outcome .ensures .1)
+
+-- ---- a refusal
+
+enum-known-answer-2 : tie.Need-enum-known-answer-2
+enum-known-answer-2 c = search needs
+
+refusal-requires : tie.Need-refusal-requires
+refusal-requires c κs = search needs
+
+same-length-2 : tie.Need-same-length-2
+same-length-2 c = search needs
+
+returns-2 : tie.Need-returns-2
+returns-2 c =
+    let known = c .before .before in
+    let at = known .before .before .before .before in
+    let e = written-refused (call at) (sym (at .write-outcome .ensures .0) ∙ known .answer2 .given .1) in
+    let same = ap (λ (a : Answered (List ℕ)). asResult (measured a)) e in
+    (back w64 (c .refusal .ok) ∙ c .refusal .ensures ∙ same, at .write-outcome .ensures .1)
+
+pub put-outcome-spec : {M : Type 1} → statement M
+put-outcome-spec =
+    tie.close
+    (tie.spec
+    write-outcome-requires
+    enum-known-answer
+    cast-result
+    enum-known-answer-2
+    refusal-requires
+    same-length
+    returns
+    same-length-2
+    returns-2)

@@ -1,0 +1,49 @@
+-- `result::not_taken` meets its contract: a kind that has no number is one of the four. Assumes nothing.
+use mathlib.Core.Path.{_≡_, refl, sym, _∙_, ap}
+use mathlib.Core.Logic.{⊎-elim}
+use mathlib.Core.List.{[], _∷_}
+use Prim.Native.Nat.{ℕ}
+use native.Mathlib.Omega.{arith}
+use mir.Syntax.{w64}
+use borrow.Author.Needs.{needs}
+use denote.Enum.Declared.{tagOf}
+use types.Run.{OneOf}
+use Rattle.numbers.proofs.Int.{back}
+use Rattle.cell.specs.Refusal.{refused}
+use Rattle.records.specs.declared.read.Kind.{Kind}
+use Rattle.records.specs.declared.read.Kind.the-variants as Kind′
+use Rattle.records.proofs.read.Kind.{the-type}
+use Rattle.threshold.specs.Result.{asResult, numberFor}
+use Rattle.threshold.proofs.result.not_taken.Statement.{statement}
+use Rattle.threshold.proofs.result.not_taken.Tie as tie
+
+-- the number of another kind
+other : (k : Kind) → OneOf (0 ∷ 1 ∷ 2 ∷ 3 ∷ []) (tagOf the-type k) → 5 ≡ numberFor k
+other Kind′.Table o = refl
+other Kind′.Gate o = refl
+other Kind′.Witness o = refl
+other Kind′.Job o = refl
+other (Kind′.Refused n) o = absurd (⊎-elim (λ e. omega arith) (⊎-elim (λ e. omega arith) (⊎-elim (λ e. omega arith) (λ e. omega arith))) o)
+
+enum-known-kind : tie.Need-enum-known-kind
+enum-known-kind c = search needs
+
+refusal-requires : tie.Need-refusal-requires
+refusal-requires c κs = search needs
+
+returns : tie.Need-returns
+returns c =
+    let same = ap (λ (k : Kind). asResult (refused (numberFor k))) (sym (c .before .before .kind .given .1)) in
+    back w64 (c .refusal .ok) ∙ c .refusal .ensures ∙ same
+
+refusal-requires-2 : tie.Need-refusal-requires-2
+refusal-requires-2 c κs = search needs
+
+returns-2 : tie.Need-returns-2
+returns-2 c =
+    let keys = c .before in
+    let same = ap (λ (n : ℕ). asResult (refused n)) (other (keys .before .args .kind) (keys .match .keys2)) in
+    back w64 (c .refusal2 .ok) ∙ c .refusal2 .ensures ∙ same
+
+pub not-taken-spec : {M : Type 1} → statement M
+not-taken-spec = tie.close (tie.spec enum-known-kind refusal-requires returns refusal-requires-2 returns-2)

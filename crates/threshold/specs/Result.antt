@@ -1,0 +1,56 @@
+-- What a call of the C interface returns: one number for its answer or its refusal (document 01, "Who causes which number"). Definitions
+-- only. Assumes nothing.
+use mathlib.Core.Bool.{Bool, true, false}
+use mathlib.Core.List.{List, [], _∷_}
+use Prim.Native.Nat.{ℕ}
+use lib.ListN.{length}
+use lib.IntN.{ℤ, pos, negℤ}
+use Rattle.cell.specs.Refusal.{Answered, answered, refused, checked}
+use Rattle.cell.specs.declared.refusal.Answer.{Answer}
+use Rattle.cell.specs.declared.refusal.Answer.the-variants as Answer′
+use Rattle.records.specs.declared.read.Kind.{Kind}
+use Rattle.records.specs.declared.read.Kind.the-variants as Kind′
+use Rattle.records.specs.Calls.{tooShort}
+
+-- what comes after an answer; a refusal stands as it is
+abbrev pub andThen : {A B : Type 0} → Answered A → (A → Answered B) → Answered B
+andThen (answered a) later = later a
+andThen (refused n) later = refused n
+
+-- the number that is returned: the answer's, or the negative of the refusal's
+abbrev pub asResult : Answered ℕ → ℤ
+asResult (answered x) = pos x
+asResult (refused n) = negℤ (pos n)
+
+-- yes is 1 and no is 0
+abbrev pub yesOrNo : Bool → ℕ
+yesOrNo true = 1
+yesOrNo false = 0
+
+-- a yes or no as that number
+abbrev pub said : Answered Bool → Answered ℕ
+said a = andThen a (λ b. answered (yesOrNo b))
+
+-- bytes to write as their length
+abbrev pub measured : Answered (List ℕ) → Answered ℕ
+measured a = andThen a (λ bytes. answered (length bytes))
+
+-- bytes to write, in a buffer of so many: 12
+abbrev pub fitted : ℕ → List ℕ → Answered (List ℕ)
+fitted room bytes = checked (tooShort room bytes ∷ []) (answered bytes)
+
+-- ---- the code's enums
+
+-- yes, no or the number of a refusal
+abbrev pub answerOf : Answer → Answered ℕ
+answerOf Answer′.Yes = answered 1
+answerOf Answer′.No = answered 0
+answerOf (Answer′.Refused n) = refused n
+
+-- the number for what a call does not take: reading's, or 5 for another kind
+abbrev pub numberFor : Kind → ℕ
+numberFor Kind′.Table = 5
+numberFor Kind′.Gate = 5
+numberFor Kind′.Witness = 5
+numberFor Kind′.Job = 5
+numberFor (Kind′.Refused n) = n

@@ -1,0 +1,34 @@
+// What a call returns to C: a number for its answer or its refusal.
+use cell::refusal::Answer;
+use records::read::Kind;
+ghost use mathlib.Core.Path.{_≡_};
+ghost use Rattle.cell.specs.Refusal.{refused};
+ghost use Rattle.threshold.specs.Result.{asResult, answerOf, numberFor};
+
+// Returns the number of a refusal, negated.
+pub fn refusal(number: u8) -> i64
+    ensures { λ r. ⌜ r ≡ asResult (refused number) ⌝ }
+{
+    -(number as i64)
+}
+
+// Returns 1 for yes and 0 for no, or the refusal.
+pub fn yes_or_no(answer: Answer) -> i64
+    ensures { λ r. ⌜ r ≡ asResult (answerOf answer) ⌝ }
+{
+    match answer {
+        Answer::Yes => 1,
+        Answer::No => 0,
+        Answer::Refused(number) => refusal(number),
+    }
+}
+
+// Returns the refusal of a record that a call does not take: what reading gave, or 5 for its kind.
+pub fn not_taken(kind: Kind) -> i64
+    ensures { λ r. ⌜ r ≡ asResult (refused (numberFor kind)) ⌝ }
+{
+    if let Kind::Refused(number) = kind {
+        return refusal(number);
+    }
+    refusal(5)
+}
