@@ -1,7 +1,10 @@
-// Carries the fresh job of each table of standard input on by 100,000 corrections, and prints how many tables there were, how many
-// jobs were found, looped, binate and open after it, and the corrections made in all. The input holds records of 34 bytes, each a kind
-// byte, n 8 and the table's 32 bytes; of a longer input the first 65,536 bytes count. bench/run times it.
+// Carries the fresh job of each table of standard input on, by 100,000 corrections or to its end, and prints how many tables there
+// were, how many jobs were found, looped, binate and open after it, the corrections made, the calls of carry-on, and the bytes that jobs
+// were saved in. The input holds the heads of records, one after another; a head's kind byte is the way in which its job is carried on,
+// as `ways` says it. What comes after the first head that breaks a rule of records, or after 65,536 bytes, does not count. bench/run
+// times it.
 mod tally;
+mod ways;
 
 use libc::STDIN_FILENO;
 

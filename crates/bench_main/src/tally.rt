@@ -1,11 +1,13 @@
 // How the jobs of a run ended. The sums wrap, so that no input stops the count.
-use job::job::Job;
+use crate::ways;
+use crate::ways::Work;
+use cell::refusal::Status;
 use job::job::Stage;
 use libc::STDOUT_FILENO;
+use reading::head::read_head;
 use std::num::wrapping_add_u64;
-use table::table::Table;
 
-// The tables, the jobs by stage, and the corrections made.
+// The tables, the jobs by stage, the corrections made, the calls of carry-on, and the bytes that jobs were saved in.
 pub struct Tally {
     pub tables: u64,
     pub found: u64,
@@ -13,24 +15,32 @@ pub struct Tally {
     pub binate: u64,
     pub open: u64,
     pub corrections: u64,
+    pub calls: u64,
+    pub bytes: u64,
 }
 
-// Returns the eight-input table of a record, whose bytes stand after the kind and n.
-fn table_of(record: &[u8]) -> Table {
-    let mut bytes = [0u8; 32];
-    let mut at: usize = 0;
-    while at < 32 && at + 2 < record.len() {
-        bytes[at] = record[at + 2];
-        at = at + 1;
+// Returns the tally of no job.
+fn none() -> Tally {
+    Tally {
+        tables: 0,
+        found: 0,
+        looped: 0,
+        binate: 0,
+        open: 0,
+        corrections: 0,
+        calls: 0,
+        bytes: 0,
     }
-    Table { n: 8, bytes }
 }
 
 // Returns the tally with one job more.
-fn with_job(tally: Tally, stage: Stage, made: u32) -> Tally {
+fn with_work(tally: Tally, work: Work) -> Tally {
     let mut next = tally;
     next.tables = wrapping_add_u64(next.tables, 1);
-    next.corrections = wrapping_add_u64(next.corrections, made as u64);
+    next.corrections = wrapping_add_u64(next.corrections, work.k as u64);
+    next.calls = wrapping_add_u64(next.calls, work.calls);
+    next.bytes = wrapping_add_u64(next.bytes, work.bytes);
+    let stage = work.stage;
     match stage {
         Stage::Open => next.open = wrapping_add_u64(next.open, 1),
         Stage::Found => next.found = wrapping_add_u64(next.found, 1),
@@ -40,42 +50,34 @@ fn with_job(tally: Tally, stage: Stage, made: u32) -> Tally {
     next
 }
 
-// Returns the tally with the job of one record more.
-fn with_record(tally: Tally, record: &[u8]) -> Tally {
-    let fresh = Job::fresh(table_of(record));
-    let carried = fresh.job.carry_on(Job::CALL_BUDGET);
-    let job = carried.job;
-    let stage = job.stage;
-    with_job(tally, stage, carried.made)
-}
-
-// Returns how the jobs of the records ended.
-pub fn of(records: &[u8]) -> Tally {
-    let mut tally = Tally {
-        tables: 0,
-        found: 0,
-        looped: 0,
-        binate: 0,
-        open: 0,
-        corrections: 0,
-    };
+// Returns how the jobs of the heads ended.
+pub fn of(heads: &[u8]) -> Tally {
+    let mut tally = none();
     let mut at: usize = 0;
-    while 34 <= records.len() - at {
-        let end = at + 34;
-        tally = with_record(tally, &records[at..end]);
-        at = end;
+    let mut left = heads.len();
+    while 0 < left {
+        let head = read_head(heads, at, ways::LAST);
+        let status = head.status;
+        if let Status::Refused(_) = status {
+            return tally;
+        }
+        tally = with_work(tally, ways::carried_on(head.kind, head.table));
+        at = head.next;
+        left = left - 1;
     }
     tally
 }
 
-// Prints the six numbers on a line.
+// Prints the eight numbers on a line.
 pub fn show(tally: Tally) {
     number(tally.tables, b" ");
     number(tally.found, b" ");
     number(tally.looped, b" ");
     number(tally.binate, b" ");
     number(tally.open, b" ");
-    number(tally.corrections, b"\n");
+    number(tally.corrections, b" ");
+    number(tally.calls, b" ");
+    number(tally.bytes, b"\n");
 }
 
 // Prints a number and what ends it.

@@ -17,7 +17,7 @@ use Rattle.job.specs.declared.view.Shown.{Shown}
 use Rattle.job.specs.declared.view.Verdict.the-variants as Verdict′
 use Rattle.job.specs.Machine.{step, run, fresh}
 use Rattle.job.specs.Sound.{cap, Sound, isSound}
-use Rattle.job.specs.Calls.{freshJob, jobRules, budgetRange, pastCap, carryOn, carried, rowFails, showJob, shownIn}
+use Rattle.job.specs.Calls.{callBudget, freshJob, decidedJob, jobRules, budgetRange, pastCap, carryOn, carried, rowFails, showJob, shownIn}
 use Rattle.theory.specs.Bound.{squares, factor}
 use Rattle.claims.specs.Claims.{ByRules}
 
@@ -28,6 +28,7 @@ Taken t = NoneBroken (tableRules t [])
 -- Demand 1: the calls on jobs give a number exactly on its condition, in their orders. In carry-on the ended answer stands before 11
 pub record JobNumbersOnTheirConditions : Type 0 where
   pub fresh-job : (t : Table) → ByRules (tableRules t []) (fresh t) (freshJob t)
+  pub decided : (t : Table) → ByRules (tableRules t []) (run callBudget (fresh t)) (decidedJob t)
   pub carry-on : (j : Job) (b : ℕ) → j .stage ≡ Open → ByRules (jobRules j (budgetRange b ∷ pastCap j b ∷ [])) (run b j) (carryOn j b)
   pub carry-on-ended : (j : Job) (b : ℕ) → j .stage ≢ Open → ByRules (jobRules j (budgetRange b ∷ [])) j (carryOn j b)
   pub row-fails : (j : Job) (r : ℕ) → ByRules (jobRules j (pastRows (j .table .n) r ∷ [])) (fails (j .table) (j .v) r) (rowFails j r)
@@ -49,11 +50,13 @@ pub record ShownIsRight : Type 0 where
   pub no-gate : (j : Job) (s : Shown) → showJob j ≡ answered s → s .verdict ≡ Verdict′.Witness → (ws : List ℤ) (th : ℤ) → ¬ Realises ws th (j .table)
 
 -- Carry-on is the machine: an accepted call gives the machine's job after the budget or at its end, and its K has grown by the corrections
--- made; two accepted calls are one run of the sum; a refused call gives the number, the job as it came in, and 0
+-- made; two accepted calls are one run of the sum; a refused call gives the number, the job as it came in, and 0. What is decided in one call is one
+-- carry-on of the whole call budget
 pub record CarryOnIsTheMachine : Type 0 where
   pub job : (j next : Job) (b : ℕ) → carryOn j b ≡ answered next → next ≡ run b j
   pub growth : (j next : Job) (b : ℕ) → carryOn j b ≡ answered next → carried j (carryOn j b) .made + j .k ≡ (run b j) .k
   pub sum : (j next last : Job) (a b : ℕ) → carryOn j a ≡ answered next → carryOn next b ≡ answered last → last ≡ run (a + b) j
+  pub decided : (t : Table) → Taken t → carryOn (fresh t) callBudget ≡ decidedJob t
   pub kept : (j : Job) (b n : ℕ) → carryOn j b ≡ refused n → (carried j (carryOn j b) .job ≡ j) × (carried j (carryOn j b) .made ≡ 0)
 
 -- Demand 3: K is at most (n + 1) × (4 × the sum of the squared weights + (2T − 1) squared) for every choice of n integer weights and a T,

@@ -73,7 +73,7 @@ stage-sound x j c m says = record {
 }
 
 -- a job put into the stage where it stands is the job
-with-stage-same : (x : Stage) (j : Job) → j .stage ≡ x → withStage x j ≡ j
+pub with-stage-same : (x : Stage) (j : Job) → j .stage ≡ x → withStage x j ≡ j
 with-stage-same x j e = λ i. record { table = j .table; k = j .k; v = j .v; mark = j .mark; s = j .s; counts = j .counts; stage = sym e i }
 
 -- after step 5 the job is sound

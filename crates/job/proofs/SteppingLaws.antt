@@ -25,11 +25,11 @@ use Rattle.job.specs.declared.job.Job.{Job}
 use Rattle.job.specs.declared.job.Stage.{Stage}
 use Rattle.job.specs.declared.job.Stage.the-variants as Stage′
 use Rattle.job.specs.Machine.{withStage, markIf, marked, settled, closed, step, run}
-use Rattle.job.specs.Sound.{cap, Sound}
-use Rattle.job.proofs.MachineLaws.{corrected-is, closed-looped, closed-on, settled-found, settled-open, found-ended, looped-ended, binate-ended, step-open, run-zero, run-suc, run-add, run-ended}
+use Rattle.job.specs.Sound.{cap, Shaped, Ranged, Sound}
+use Rattle.job.proofs.MachineLaws.{corrected-is, closed-looped, closed-on, settled-found, settled-open, found-ended, looped-ended, binate-ended, step-open, run-zero, run-suc, run-add, run-ended, run-table}
 use Rattle.job.proofs.SoundBounds.{sound-in, sound-count}
 use Rattle.job.proofs.SoundTest.{in-range-search}
-use Rattle.job.proofs.Soundness.{run-sound-from}
+use Rattle.job.proofs.Soundness.{run-sound-from, run-growth}
 
 -- ---- where the loop stands
 
@@ -126,13 +126,19 @@ module _ {start : Job} {m : ℕ} {j : Job} (s : Stands start m j) where
 
 -- what the code asks of the job: no number of it wraps in a step
 pub record Bounded (j : Job) : Type 0 where
+  pub shaped : Shaped j
   pub capped : j .k ≤ cap
+  pub current : Ranged (j .k) (j .table .n) (j .v)
+  pub copied : Ranged (j .k) (j .table .n) (j .s)
   pub ranged : inRange weightLimit 8 (j .v .a) (j .v .b) ≡ true
   pub count : (r : ℕ) → getD (j .counts) r 0 ≤ cap
 
 sound-bounded : (x : Stage) (j : Job) → x ≢ Stage′.Binate → Sound (withStage x j) → Bounded j
 sound-bounded x j n s = record {
+  shaped = record { weights = s .shaped .weights; copied = s .shaped .copied; counts = s .shaped .counts };
   capped = s .capped;
+  current = s .current;
+  copied = s .copied;
   ranged = in-range-search (j .k) (j .table .n) (j .v .a) (j .v .b) (s .capped) (s .current);
   count = λ r. omega (arith, sound-count (withStage x j) s n r, s .capped);
 }
@@ -147,3 +153,37 @@ stands-bounded {start} {m} {j} n sound l s = by (failing (j .table) (j .v)) refl
     by : (o : Option ℕ) → failing (j .table) (j .v) ≡ o → Bounded j
     by none f = sound-bounded Stage′.Found j (λ e. let z : _≡_ {A = ℕ} 0 1 = cc in omega arith) (subst Sound (settled-found j f) machine)
     by (some r) f = sound-bounded (j .stage) j (λ e. binate-ended (sym e ∙ s .stage)) (subst Sound (settled-open j r f) machine)
+
+-- ---- the steps in parts
+
+-- what is left to make from j on comes to the budget's steps from `start`
+pub record Left (start : Job) (budget : ℕ) (j : Job) (left : ℕ) : Type 0 where
+  pub inputs : j .table .n ≤ 8
+  pub sound : Sound j
+  pub stage : j .stage ≡ Stage′.Open
+  pub capped : j .k + left ≤ cap
+  pub machine : run left j ≡ run budget start
+
+module _ {start : Job} {budget : ℕ} {j : Job} {left : ℕ} (l : Left start budget j left) where
+  -- with nothing left the job is the machine's
+  pub left-none : left ≤ 0 → j ≡ run budget start
+  left-none h = let none : 0 ≡ left = omega arith in sym (run-zero j) ∙ ap (λ (m : ℕ). run m j) none ∙ l .machine
+
+  -- r is the job after a part of what is left
+  module _ {r : Job} {part : ℕ} (h : part ≤ left) (e : r ≡ run part j) where
+    -- ended, it is the machine's
+    pub left-ended : r .stage ≢ Stage′.Open → r ≡ run budget start
+    left-ended n = run-stays j r part left h e n ∙ l .machine
+
+    -- open, the rest is left
+    pub left-next : r .stage ≡ Stage′.Open → Left start budget r (left - part)
+    left-next still =
+        let rest : part + (left - part) ≡ left = omega arith in
+        let few : j .k + part ≤ cap = omega (arith, l .capped) in
+        record {
+          inputs = rw (e, run-table part j) (l .inputs);
+          sound = subst Sound (sym e) (run-sound-from j (l .inputs) (l .sound) part few);
+          stage = still;
+          capped = omega (arith, l .capped, run-growth j part, ap (λ (i : Job). i .k) e);
+          machine = ap (run (left - part)) e ∙ sym (run-add part (left - part) j) ∙ ap (λ (m : ℕ). run m j) rest ∙ l .machine;
+        }

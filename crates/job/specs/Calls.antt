@@ -39,6 +39,12 @@ abbrev pub started : Table → Answered Job → Started
 started t (answered j) = record { status = Status′.Done; job = j }
 started t (refused n) = record { status = Status′.Refused n; job = startJob t zeros Open }
 
+-- ---- decided: 2, 3
+
+-- the job of a table after one carry-on of the whole call budget
+abbrev pub decidedJob : Table → Answered Job
+decidedJob t = checked (tableRules t []) (answered (run callBudget (fresh t)))
+
 -- ---- carry-on: 2, 3, 9, 10, the ended answer, 11
 
 -- 9: job not sound

@@ -1,8 +1,10 @@
 // A job: the state of the stepping machine on one table, made fresh and carried on.
+use crate::batch::decided_by;
 use crate::sound::is_sound;
 use crate::stepping::steps;
 use cell::refusal::Status;
 use cell::refusal::table_status;
+use lanes::steps::step_table;
 use machine::binate::binate_counts;
 use machine::binate::binate_place;
 use machine::vector::Vector;
@@ -14,7 +16,7 @@ ghost use mathlib.Core.Bool.{true, false};
 ghost use Rattle.cell.specs.Answers.{status};
 ghost use Rattle.cell.specs.Refusal.{refused};
 ghost use Rattle.job.specs.Machine.{startJob};
-ghost use Rattle.job.specs.Calls.{jobChecked, freshJob, started, carryOn, carried};
+ghost use Rattle.job.specs.Calls.{jobChecked, freshJob, started, decidedJob, carryOn, carried};
 
 // Where the machine stands: still open, or ended with a gate, with a cycle that is a witness, or at once with a binate input.
 pub enum Stage {
@@ -65,7 +67,7 @@ fn start_job(table: Table, counts: [u32; 256], stage: Stage) -> Job
 }
 
 // Whether the stage is an end.
-fn is_ended(stage: Stage) -> bool
+pub fn is_ended(stage: Stage) -> bool
     ensures { λ r. ⌜ (r ≡ true → stage ≢ Stage.Open) × (r ≡ false → stage ≡ Stage.Open) ⌝ }
 {
     match stage {
@@ -121,6 +123,14 @@ impl Job {
         }
     }
 
+    // Returns the job of a table after one carry-on of the whole call budget from its fresh job. Refusals: 2, 3.
+    pub fn decided(table: Table) -> Started
+        ensures { λ r. ⌜ r ≡ started table (decidedJob table) ⌝ }
+    {
+        let steps = step_table();
+        decided_by(table, &steps)
+    }
+
     // Carries the job on by a budget of corrections, or to its end. Refusals: 2, 3, 9, 10, 11; the job is then as it came in. An
     // ended job makes no correction.
     pub fn carry_on(self, budget: u32) -> Carried
@@ -144,7 +154,8 @@ impl Job {
         if Job::CAP - budget < self.k {
             return refused(self, 11);
         }
-        let next = steps(self, budget);
+        let table = step_table();
+        let next = steps(self, budget, &table);
         let made = next.k - self.k;
         Carried {
             status: Status::Done,

@@ -1,5 +1,7 @@
 // Jobs of the stepping machine: made fresh, carried on by corrections until a gate or a witness is found, and shown. The functions of the
 // private modules ask for a job that keeps its ranges; the calls of `job` and `view` take anything.
+pub mod batch;
+mod chunk;
 pub mod job;
 mod sound;
 mod stepping;

@@ -1,6 +1,10 @@
 // The machine's steps, one after another.
+use crate::chunk::CHUNK;
+use crate::chunk::chunk;
 use crate::job::Job;
 use crate::job::Stage;
+use crate::job::is_ended;
+use lanes::size::is_small;
 use machine::power::top_power;
 use machine::scan::first_failing;
 use machine::scan::row_values;
@@ -9,6 +13,8 @@ use machine::vector::same_vector;
 use table::inputs::Found;
 ghost use mathlib.Core.Path.{_≡_};
 ghost use Prim.Native.Nat.{_+_, _≤_};
+ghost use Rattle.machine.specs.Scan.{Holds};
+ghost use Rattle.lanes.specs.Codes.{stepAt};
 ghost use Rattle.job.specs.Machine.{withStage, run};
 ghost use Rattle.job.specs.Sound.{cap, Sound};
 
@@ -32,7 +38,7 @@ pub fn with_stage(job: Job, stage: Stage) -> Job
 }
 
 // Returns the job after so many steps, or at its end. A step makes one search: the row that it finds is the next step's.
-pub fn steps(job: Job, budget: u32) -> Job
+fn plain_steps(job: Job, budget: u32) -> Job
     requires { ⌜ (job .table .n ≤ 8) × Sound job × (job .stage ≡ Stage.Open) × (job .k + budget ≤ cap) ⌝ }
     ensures { λ r. ⌜ r ≡ run budget job ⌝ }
 {
@@ -66,4 +72,35 @@ pub fn steps(job: Job, budget: u32) -> Job
     } else {
         with_stage(j, Stage::Found)
     }
+}
+
+// Returns the job after at most a chunk of steps, or at its end: in the fast form where the numbers of v and s are small.
+fn part_steps(job: Job, budget: u32, table: &[i16; 2048]) -> Job
+    requires { ⌜ (job .table .n ≤ 8) × Sound job × (job .stage ≡ Stage.Open) × (job .k + budget ≤ cap) × (budget ≤ 2000) × Holds stepAt 2048 (now table) ⌝ }
+    ensures { λ r. ⌜ r ≡ run budget job ⌝ }
+{
+    if is_small(job.v) && is_small(job.s) {
+        chunk(job, budget, table)
+    } else {
+        plain_steps(job, budget)
+    }
+}
+
+// Returns the job after so many steps, or at its end, chunk by chunk. `table` is the table of steps.
+pub fn steps(job: Job, budget: u32, table: &[i16; 2048]) -> Job
+    requires { ⌜ (job .table .n ≤ 8) × Sound job × (job .stage ≡ Stage.Open) × (job .k + budget ≤ cap) × Holds stepAt 2048 (now table) ⌝ }
+    ensures { λ r. ⌜ r ≡ run budget job ⌝ }
+{
+    let mut j = job;
+    let mut left = budget;
+    while 0 < left {
+        let part = if left < CHUNK { left } else { CHUNK };
+        j = part_steps(j, part, table);
+        let stage = j.stage;
+        if is_ended(stage) {
+            return j;
+        }
+        left = left - part;
+    }
+    j
 }

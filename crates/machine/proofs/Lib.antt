@@ -5,3 +5,7 @@ pub mod FailingLaws
 pub mod BinateLaws
 pub mod DistanceLaws
 pub mod ScanLaws
+pub mod WordLaws
+pub mod PairLaws
+pub mod TurnLaws
+pub mod ValueLaws

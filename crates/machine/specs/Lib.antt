@@ -3,3 +3,4 @@ pub mod Failing
 pub mod Power
 pub mod Binate
 pub mod Scan
+pub mod Words

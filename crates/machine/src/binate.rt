@@ -1,7 +1,8 @@
 // The binate input of a table, and the counts that show it.
+use crate::words::pairs_at;
+use crate::words::row_words;
 use table::inputs::Found;
 use table::inputs::first_turn;
-use table::inputs::is_row;
 use table::table::Table;
 ghost use mathlib.Core.Path.{_≡_};
 ghost use mathlib.Core.Option.{Option, some};
@@ -9,13 +10,23 @@ ghost use Prim.Native.Nat.{ℕ, _+_, _^_, _≤_, _<_};
 ghost use lib.ListN.{getD};
 ghost use Rattle.table.specs.Inputs.{found};
 ghost use Rattle.machine.specs.Binate.{pairMore, binateAt, binatePlace, binateCounts};
+ghost use Rattle.machine.specs.Words.{rowWords};
 
-// Whether the place's input rises somewhere and falls elsewhere.
-fn binate_at(table: Table, place: usize) -> bool
-    requires { ⌜ (table .n ≤ 8) × (place < 8) ⌝ }
-    ensures { λ r. ⌜ r ≡ binateAt table place ⌝ }
+// Whether the place's input rises somewhere and falls elsewhere, by the values of the rows.
+fn binate_at(words: &[u64; 4], place: usize) -> bool
+    requires { ⌜ place < 8 ⌝ }
+    ensures { λ r. ⌜ ((t : Table) → t .n ≤ 8 → place < t .n → now (words .entry) ≡ rowWords t → r ≡ binateAt t place) ⌝ }
 {
-    is_row(first_turn(table, true, place)) && is_row(first_turn(table, false, place))
+    let mut rises: u64 = 0;
+    let mut falls: u64 = 0;
+    let mut at: usize = 0;
+    while at < 4 {
+        let pairs = pairs_at(words, place, at);
+        rises = rises | (!pairs.own & pairs.partner);
+        falls = falls | (pairs.own & !pairs.partner);
+        at = at + 1;
+    }
+    rises != 0 && falls != 0
 }
 
 // Returns the place of the lowest binate input.
@@ -23,10 +34,11 @@ pub fn binate_place(table: Table) -> Found
     requires { ⌜ table .n ≤ 8 ⌝ }
     ensures { λ r. ⌜ r ≡ found (binatePlace table) ⌝ }
 {
+    let words = row_words(table);
     let n = table.n as usize;
     let mut place: usize = 0;
     while place < n {
-        if binate_at(table, place) {
+        if binate_at(&words, place) {
             return Found::Row(place);
         }
         place = place + 1;

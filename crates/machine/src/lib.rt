@@ -4,3 +4,4 @@ pub mod binate;
 pub mod power;
 pub mod scan;
 pub mod vector;
+pub mod words;

@@ -3,10 +3,9 @@
 use crate::vector::Vector;
 use table::inputs::Found;
 use table::table::Table;
-use table::table::row_value;
 ghost use mathlib.Core.Path.{_≡_};
 ghost use mathlib.Core.Bool.{true};
-ghost use Prim.Native.Nat.{ℕ, _+_, _^_, _≤_, _<_};
+ghost use Prim.Native.Nat.{ℕ, _+_, _*_, _^_, _≤_, _<_};
 ghost use lib.ListN.{length, getD};
 ghost use lib.IntN.{pos, natAbs};
 ghost use lib.Signed.{ltZ};
@@ -17,16 +16,34 @@ ghost use Rattle.table.specs.Gate.{weightLimit, inRange};
 ghost use Rattle.table.specs.Inputs.{found};
 ghost use Rattle.machine.specs.Failing.{margin, failing};
 ghost use Rattle.machine.specs.Scan.{failsAt, Holds, doubled};
+ghost use Rattle.machine.specs.Words.{valuesBelow};
+
+// Stores the values of the eight rows of a byte, where those of the rows before it stand. A byte 0 has nothing to store.
+fn store_byte(values: &mut [bool; 256], bytes: &[u8; 32], at: usize)
+    requires { ⌜ (at < 32) × (now values ≡ valuesBelow (8 * at) (now bytes)) ⌝ }
+    ensures { λ _. ⌜ now (values .exit) ≡ valuesBelow (8 * (at + 1)) (now (bytes .entry)) ⌝ }
+{
+    let byte = bytes[at];
+    if byte == 0 {
+        return;
+    }
+    let mut bit: usize = 0;
+    while bit < 8 {
+        values[8 * at + bit] = (byte >> bit) % 2 == 1;
+        bit = bit + 1;
+    }
+}
 
 // Returns the table's value on each row.
 pub fn row_values(table: Table) -> [bool; 256]
     ensures { λ r. ⌜ r ≡ tabulate 256 (value table) ⌝ }
 {
+    let bytes = table.bytes;
     let mut values = [false; 256];
-    let mut row: usize = 0;
-    while row < 256 {
-        values[row] = row_value(table, row);
-        row = row + 1;
+    let mut byte: usize = 0;
+    while byte < 32 {
+        store_byte(&mut values, &bytes, byte);
+        byte = byte + 1;
     }
     values
 }

@@ -1,5 +1,6 @@
 // The report of an input, printed on standard output. Each write is whole: after a short write of the operating system the rest is
 // written too.
+use lanes::steps::step_table;
 use libc::STDOUT_FILENO;
 use reporting::line::too_long_line;
 use reporting::progress::LINE_ROOM;
@@ -46,6 +47,7 @@ fn print_lines(input: &[u8])
 {
     let mut out = io::large_buffer();
     let mut used: usize = 0;
+    let steps = step_table();
     let mut progress = at_start();
     let mut left = INPUT_MOST + 2;
     while 0 < left && !is_done(progress) {
@@ -53,7 +55,7 @@ fn print_lines(input: &[u8])
             io::write_all(STDOUT_FILENO, &out[..used]);
             used = 0;
         }
-        let line = next_line(input, progress, &mut out[used..]);
+        let line = next_line(input, progress, &steps, &mut out[used..]);
         used = used + line.length;
         progress = line.next;
         left = left - 1;

@@ -6,6 +6,7 @@ use crate::tally::Tally;
 use crate::tally::no_tally;
 use crate::tally::with_record;
 use cell::refusal::Status;
+use job::batch::decided_by;
 use job::job::Job;
 use reading::head::read_head;
 use table::table::Table;
@@ -15,6 +16,8 @@ ghost use Prim.Native.Nat.{_≤_, _<_};
 ghost use lib.ListN.{length};
 ghost use Rattle.cell.specs.Refusal.{NoneBroken};
 ghost use Rattle.cell.specs.Calls.{tableRules};
+ghost use Rattle.machine.specs.Scan.{Holds};
+ghost use Rattle.lanes.specs.Codes.{stepAt};
 ghost use Rattle.codec.specs.Field.{writtenAt};
 ghost use Rattle.codec.specs.Head.{headAt};
 ghost use Rattle.reporting.specs.Report.{inputMost, decided, start, Bounded, lastOf, advanceBy, advance};
@@ -54,13 +57,12 @@ pub fn at_start() -> Progress
 }
 
 // Returns the job of a table after one carry-on of 100,000.
-fn decided_job(table: Table) -> Job
-    requires { ⌜ NoneBroken (tableRules table []) ⌝ }
+fn decided_job(table: Table, steps: &[i16; 2048]) -> Job
+    requires { ⌜ NoneBroken (tableRules table []) × Holds stepAt 2048 (now steps) ⌝ }
     ensures { λ r. ⌜ r ≡ decided table ⌝ }
 {
-    let fresh = Job::fresh(table);
-    let carried = fresh.job.carry_on(Job::CALL_BUDGET);
-    carried.job
+    let decided = decided_by(table, steps);
+    decided.job
 }
 
 // Makes the last line.
@@ -81,8 +83,14 @@ fn ended(at: usize, tally: Tally, out: &mut [u8]) -> Line
 }
 
 // Makes the line of the record at a position, or of its refusal.
-fn record_or_refusal(input: &[u8], at: usize, tally: Tally, out: &mut [u8]) -> Line
-    requires { ⌜ (tally .records ≤ 65536) × (tally .gates ≤ 65536) × (tally .witnesses ≤ 65536) × (tally .opens ≤ 65536) × (tally .sum ≤ 65536000000) × (4096 ≤ length (now out)) ⌝ }
+fn record_or_refusal(
+    input: &[u8],
+    at: usize,
+    tally: Tally,
+    steps: &[i16; 2048],
+    out: &mut [u8],
+) -> Line
+    requires { ⌜ (tally .records ≤ 65536) × (tally .gates ≤ 65536) × (tally .witnesses ≤ 65536) × (tally .opens ≤ 65536) × (tally .sum ≤ 65536000000) × (4096 ≤ length (now out)) × Holds stepAt 2048 (now steps) ⌝ }
     ensures { λ r. ⌜ (r .length ≡ length (advanceBy at tally (headAt 1 (now (input .entry)) at) .line)) × (r .next ≡ advanceBy at tally (headAt 1 (now (input .entry)) at) .next) × (now (out .exit) ≡ writtenAt (now (out .entry)) 0 (advanceBy at tally (headAt 1 (now (input .entry)) at) .line)) ⌝ }
     ensures { λ r. ⌜ r .length ≤ 4096 ⌝ }
 {
@@ -99,7 +107,7 @@ fn record_or_refusal(input: &[u8], at: usize, tally: Tally, out: &mut [u8]) -> L
             },
         };
     }
-    let job = decided_job(head.table);
+    let job = decided_job(head.table, steps);
     let length = record_line(out, tally.records + 1, job);
     let stage = job.stage;
     Line {
@@ -112,9 +120,9 @@ fn record_or_refusal(input: &[u8], at: usize, tally: Tally, out: &mut [u8]) -> L
     }
 }
 
-// Makes the next line of the report of an input, at the start of a lent buffer.
-pub fn next_line(input: &[u8], progress: Progress, out: &mut [u8]) -> Line
-    requires { ⌜ (length (now input) ≤ inputMost) × Bounded progress × (4096 ≤ length (now out)) ⌝ }
+// Makes the next line of the report of an input, at the start of a lent buffer. `steps` is the table of steps, which a caller makes once.
+pub fn next_line(input: &[u8], progress: Progress, steps: &[i16; 2048], out: &mut [u8]) -> Line
+    requires { ⌜ (length (now input) ≤ inputMost) × Bounded progress × (4096 ≤ length (now out)) × Holds stepAt 2048 (now steps) ⌝ }
     ensures { λ r. ⌜ (r .length ≡ length (advance (now (input .entry)) progress .line)) × (r .next ≡ advance (now (input .entry)) progress .next) × (now (out .exit) ≡ writtenAt (now (out .entry)) 0 (advance (now (input .entry)) progress .line)) ⌝ }
     ensures { λ r. ⌜ Bounded (r .next) × (r .length ≤ 4096) ⌝ }
 {
@@ -123,7 +131,7 @@ pub fn next_line(input: &[u8], progress: Progress, out: &mut [u8]) -> Line
     match step {
         Step::Records => {
             if progress.at < input.len() {
-                record_or_refusal(input, progress.at, tally, out)
+                record_or_refusal(input, progress.at, tally, steps, out)
             } else {
                 ended(progress.at, tally, out)
             }

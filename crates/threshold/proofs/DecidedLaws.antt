@@ -35,31 +35,11 @@ run-kept j m kept sound l =
 -- ---- one carry-on of a fresh job
 
 module _ (t : Table) (kept : NoneBroken (tableRules t [])) where
-  -- the table is taken
-  pub fresh-is : freshJob t ≡ answered (fresh t)
-  fresh-is = none-broken-answered (tableRules t []) (answered (fresh t)) kept
-
   fresh-kept : NoneBroken (tableRules ((fresh t) .table) [])
   fresh-kept = rw (fresh-table t) kept
 
   sound : Sound (fresh t)
   sound = fresh-sound t (kept-inputs t kept)
-
-  -- and so is the carry-on
-  pub decided-is : carryOn (fresh t) callBudget ≡ answered (run callBudget (fresh t))
-  decided-is =
-      let rules = job-all-kept (fresh t) fresh-kept (is-sound-correct (fresh t) .1 sound) (also refl none) in
-      none-broken-answered (jobRules (fresh t) (budgetRange callBudget ∷ [])) later rules ∙ by (open-or-ended ((fresh t) .stage))
-    where
-      below : Answered Job
-      below = checked (pastCap (fresh t) callBudget ∷ []) (answered (run callBudget (fresh t)))
-
-      later : Answered Job
-      later = ifOpen ((fresh t) .stage) below (answered (fresh t))
-
-      by : Dec ((fresh t) .stage ≡ Open) → later ≡ answered (run callBudget (fresh t))
-      by (yes e) = rw (e, le-ltb cap ((fresh t) .k + callBudget) (omega (arith, fresh-k t)))
-      by (no e) = sym (if-open-ended ((fresh t) .stage) below (answered (fresh t)) e) ∙ ap answered (sym (run-ended callBudget (fresh t) e))
 
   -- the job keeps its rules
   pub decided-kept : NoneBroken (jobRules (run callBudget (fresh t)) [])

@@ -23,9 +23,8 @@ fn decided_job(table: Table) -> Job
     requires { ⌜ NoneBroken (tableRules table []) ⌝ }
     ensures { λ r. ⌜ r ≡ run callBudget (fresh table) ⌝ }
 {
-    let fresh = Job::fresh(table);
-    let carried = fresh.job.carry_on(Job::CALL_BUDGET);
-    carried.job
+    let decided = Job::decided(table);
+    decided.job
 }
 
 // Decides the table of a kind 1 record: writes its gate (kind 2), its witness (kind 3), or the job that is open after 100,000 corrections

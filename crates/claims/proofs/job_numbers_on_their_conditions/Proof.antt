@@ -2,8 +2,8 @@
 use mathlib.Core.List.{[], _∷_}
 use Rattle.machine.specs.Failing.{fails}
 use Rattle.cell.specs.Calls.{tableRules, pastRows}
-use Rattle.job.specs.Machine.{fresh}
-use Rattle.job.specs.Calls.{jobRules, shownIn}
+use Rattle.job.specs.Machine.{run, fresh}
+use Rattle.job.specs.Calls.{callBudget, jobRules, shownIn}
 use Rattle.claims.proofs.Rules.{by-rules}
 use Rattle.claims.proofs.CarryOn.{carry-on-open, carry-on-ended}
 use Rattle.claims.proofs.job_numbers_on_their_conditions.Statement.{statement}
@@ -12,6 +12,7 @@ use Rattle.claims.proofs.job_numbers_on_their_conditions.Tie as tie
 returns : tie.Need-returns
 returns c = record {
   fresh-job = λ t. by-rules (tableRules t []) (fresh t);
+  decided = λ t. by-rules (tableRules t []) (run callBudget (fresh t));
   carry-on = carry-on-open;
   carry-on-ended = carry-on-ended;
   row-fails = λ j r. by-rules (jobRules j (pastRows (j .table .n) r ∷ [])) (fails (j .table) (j .v) r);

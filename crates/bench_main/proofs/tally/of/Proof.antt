@@ -1,46 +1,50 @@
--- `bench_main::tally::of` is safe. The loop's invariant: `at` is within the input. The measure is what is left of it. Assumes nothing.
-use Prim.Native.Nat.{_≤_, _-_}
-use native.Mathlib.Omega.{arith}
+-- `bench_main::tally::of` is safe and ends. Nothing has to hold from turn to turn; the measure is the number of heads that there can
+-- still be. Assumes nothing.
 use borrow.Author.Needs.{needs}
-use lib.ListN.{length}
 use Rattle.bench_main.proofs.tally.of.Statement.{statement}
 use Rattle.bench_main.proofs.tally.of.Tie as tie
 
 abbrev Inv-loop : tie.InvT-loop
-Inv-loop records tally₀ at₀ tally at = at ≤ length records
+Inv-loop heads tally₀ at₀ left₀ tally at left = Unit {0}
 
 abbrev μ-loop : tie.MeasureT-loop
-μ-loop records tally₀ at₀ tally at = length records - at
+μ-loop heads tally₀ at₀ left₀ tally at left = left
+
+none-requires : tie.Need-none-requires Inv-loop μ-loop
+none-requires c κs = search needs
 
 loop-holds : tie.Need-loop-holds Inv-loop μ-loop
-loop-holds c = omega arith
+loop-holds c = search needs
 
-sub-loop : tie.Need-sub-loop Inv-loop μ-loop
-sub-loop c = omega arith
+read-head-requires : tie.Need-read-head-requires Inv-loop μ-loop
+read-head-requires c κs = search needs
 
-add-end : tie.Need-add-end Inv-loop μ-loop
-add-end c = omega arith
-
-sub-with-record : tie.Need-sub-with-record Inv-loop μ-loop
-sub-with-record c = omega arith
-
-part-with-record-start : tie.Need-part-with-record-start Inv-loop μ-loop
-part-with-record-start c = omega arith
-
-part-with-record-end : tie.Need-part-with-record-end Inv-loop μ-loop
-part-with-record-end c = omega arith
-
-with-record-requires : tie.Need-with-record-requires Inv-loop μ-loop
-with-record-requires c κs = search needs
-
-loop-less : tie.Need-loop-less Inv-loop μ-loop
-loop-less c = omega arith
-
-loop-again : tie.Need-loop-again Inv-loop μ-loop
-loop-again c = omega arith
+enum-told : tie.Need-enum-told Inv-loop μ-loop
+enum-told c = search needs
 
 returns : tie.Need-returns Inv-loop μ-loop
 returns c = search needs
+
+enum-told-2 : tie.Need-enum-told-2 Inv-loop μ-loop
+enum-told-2 c = search needs
+
+carried-on-requires : tie.Need-carried-on-requires Inv-loop μ-loop
+carried-on-requires c κs = search needs
+
+with-work-requires : tie.Need-with-work-requires Inv-loop μ-loop
+with-work-requires c κs = search needs
+
+sub-left : tie.Need-sub-left Inv-loop μ-loop
+sub-left c = search needs
+
+loop-less : tie.Need-loop-less Inv-loop μ-loop
+loop-less c = search needs
+
+loop-again : tie.Need-loop-again Inv-loop μ-loop
+loop-again c = search needs
+
+returns-2 : tie.Need-returns-2 Inv-loop μ-loop
+returns-2 c = search needs
 
 pub of-spec : {M : Type 1} → statement M
 of-spec =
@@ -48,13 +52,15 @@ of-spec =
     (tie.spec
     Inv-loop
     μ-loop
+    none-requires
     loop-holds
-    sub-loop
-    add-end
-    sub-with-record
-    part-with-record-start
-    part-with-record-end
-    with-record-requires
+    read-head-requires
+    enum-told
+    returns
+    enum-told-2
+    carried-on-requires
+    with-work-requires
+    sub-left
     loop-less
     loop-again
-    returns)
+    returns-2)

@@ -1,61 +1,98 @@
--- `machine::binate::binate_at` meets its contract: the input is binate where both searches find a row. Assumes nothing.
-use mathlib.Core.Path.{_≡_, sym, _∙_, ap}
-use mathlib.Core.Bool.{Bool, true, false, _&&_}
-use mathlib.Core.Option.{Option}
-use Prim.Native.Nat.{ℕ}
+-- `machine::binate::binate_at` meets its contract. The loop's invariant: the two words have gathered the rises and the falls of the words
+-- below `at`. The measure is the number of words left. Assumes nothing.
+use mathlib.Core.Path.{_≡_, sym, _∙_, ap, ap₂}
+use mathlib.Core.Bool.{Bool, true, false, not, _&&_}
+use Prim.Native.Nat.{ℕ, _-_, _≤_, _<_}
+use native.Mathlib.Omega.{arith}
 use borrow.Author.Needs.{needs}
-use Rattle.numbers.specs.Tests.{isSome}
-use Rattle.table.specs.declared.inputs.Found.{Found}
-use Rattle.table.specs.Inputs.{firstTurn, found, isRow}
-use Rattle.table.proofs.InputLaws.{is-row-found}
+use borrow.Author.Tests.{eq-eqb, ne-eqb}
+use lib.Dec.{eqb}
+use Rattle.numbers.specs.Tabulate.{tabulate}
+use Rattle.table.specs.declared.table.Table.{Table}
+use Rattle.table.specs.Table.{rows}
+use Rattle.machine.specs.declared.words.Pairs.{Pairs}
+use Rattle.machine.specs.Words.{packed, wordOf, inTable, rowWords}
 use Rattle.machine.specs.Binate.{binateAt}
 use Rattle.machine.proofs.BinateLaws.{binate-at-searches}
+use Rattle.machine.proofs.TurnLaws.{gathered, turned, gather-none, gather-more, word-rises, word-falls, turn-found}
 use Rattle.machine.proofs.binate.binate_at.Statement.{statement}
 use Rattle.machine.proofs.binate.binate_at.Tie as tie
 
-first-turn-requires : tie.Need-first-turn-requires
-first-turn-requires c κs = search needs
+abbrev Inv-loop : tie.InvT-loop
+Inv-loop words place rises₀ falls₀ at₀ rises falls at =
+    (at ≤ 4)
+    × ((f : ℕ → Bool) → words ≡ tabulate 4 (wordOf f)
+    → (rises ≡ packed 64 (gathered (turned f true place) at)) × (falls ≡ packed 64 (gathered (turned f false place) at)))
 
-is-row-requires : tie.Need-is-row-requires
-is-row-requires c κs = search needs
+abbrev μ-loop : tie.MeasureT-loop
+μ-loop words place rises₀ falls₀ at₀ rises falls at = 4 - at
 
-first-turn-requires-2 : tie.Need-first-turn-requires-2
-first-turn-requires-2 c κs = search needs
+loop-holds : tie.Need-loop-holds Inv-loop μ-loop
+loop-holds c = (omega arith, λ f e. (gather-none (turned f true (c .args .place)), gather-none (turned f false (c .args .place))))
 
-is-row-requires-2 : tie.Need-is-row-requires-2
-is-row-requires-2 c κs = search needs
+pairs-at-requires : tie.Need-pairs-at-requires Inv-loop μ-loop
+pairs-at-requires c κs = search needs
 
--- what a call of `is_row` says of a search
-found-by : {answer : Found} {result : Bool} (o : Option ℕ) → result ≡ isRow answer → answer ≡ found o → result ≡ isSome o
-found-by o r a = r ∙ ap isRow a ∙ is-row-found o
+add-at : tie.Need-add-at Inv-loop μ-loop
+add-at c = search needs
 
--- by whether the input rises somewhere, the place is binate where it falls somewhere, or not
-by-rises : (c : tie.After-is-row) (rises : Bool) → c .is-row .result ≡ rises
-    → let a = c .before .before .args in
-    (rises && isSome (firstTurn (a .table) false (a .place))) ≡ binateAt (a .table) (a .place)
-by-rises c rises e =
+loop-less : tie.Need-loop-less Inv-loop μ-loop
+loop-less c = search needs
+
+loop-again : tie.Need-loop-again Inv-loop μ-loop
+loop-again c =
+    let call = c .before .before .before .before in
+    let at-head = call .before .before .loop in
+    let place = call .before .before .before .args .place in (
+      omega arith,
+      λ f e.
+          let pairs = call .pairs-at .ensures f e in
+          let own = ap (λ (x : Pairs). x .own) pairs in
+          let partner = ap (λ (x : Pairs). x .partner) pairs in
+          let passed = at-head .inv .1 f e in (
+            gather-more (turned f true place) (at-head .at) (passed .0) (word-rises f place (at-head .at) own partner),
+            gather-more (turned f false place) (at-head .at) (passed .1) (word-falls f place (at-head .at) own partner),
+          ),
+    )
+
+-- both words are not 0 exactly if the place is binate
+found-both : (c : tie.After-loop Inv-loop μ-loop) (t : Table)
+    → let at-end = c .before .loop in
     let a = c .before .before .args in
-    let falls = isSome (firstTurn (a .table) false (a .place)) in
-    ap (λ (b : Bool). b && falls) (sym e ∙ found-by (firstTurn (a .table) true (a .place)) (c .is-row .ensures) (c .before .first-turn .ensures))
-    ∙ sym (binate-at-searches (a .table) (a .place))
+    t .n ≤ 8
+    → a .place < t .n
+    → a .words .now ≡ rowWords t
+    → (not (eqb (at-end .rises) 0) && not (eqb (at-end .falls) 0)) ≡ binateAt t (a .place)
+found-both c t h k e =
+    let at-end = c .before .loop in
+    let place = c .before .before .args .place in
+    let all : at-end .at ≡ 4 = omega arith in
+    let passed = at-end .inv .1 (inTable (rows t) (t .bytes)) e in
+    ap₂ _&&_ (turn-found t true place h k all (passed .0)) (turn-found t false place h k all (passed .1))
+    ∙ sym (binate-at-searches t place)
 
-returns : tie.Need-returns
-returns c =
-    let rising = c .before .before in
-    let a = rising .before .before .before .args in
-    found-by (firstTurn (a .table) false (a .place)) (c .is-row2 .ensures) (c .before .first-turn2 .ensures)
-    ∙ by-rises (rising .before) true (rising .if1 .taken)
+returns : tie.Need-returns Inv-loop μ-loop
+returns c t h k e =
+    let at-end = c .before .before .loop in
+    let rises = ap not (ne-eqb (at-end .rises) 0 (c .if1 .taken)) in
+    ap (λ (b : Bool). b && not (eqb (at-end .falls) 0)) (sym rises) ∙ found-both (c .before) t h k e
 
-returns-2 : tie.Need-returns-2
-returns-2 c = c .if1 .left ∙ by-rises (c .before) false (c .if1 .left)
+returns-2 : tie.Need-returns-2 Inv-loop μ-loop
+returns-2 c t h k e =
+    let at-end = c .before .before .loop in
+    let idle = ap not (eq-eqb (at-end .rises) 0 (c .if1 .left)) in
+    idle ∙ ap (λ (b : Bool). b && not (eqb (at-end .falls) 0)) (sym idle) ∙ found-both (c .before) t h k e
 
 pub binate-at-spec : {M : Type 1} → statement M
 binate-at-spec =
     tie.close
     (tie.spec
-    first-turn-requires
-    is-row-requires
-    first-turn-requires-2
-    is-row-requires-2
+    Inv-loop
+    μ-loop
+    loop-holds
+    pairs-at-requires
+    add-at
+    loop-less
+    loop-again
     returns
     returns-2)

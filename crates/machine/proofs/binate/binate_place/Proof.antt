@@ -1,46 +1,60 @@
--- `machine::binate::binate_place` meets its contract. The loop's invariant: no place below `place` is binate. The measure is the number of
--- places left. Assumes nothing.
-use mathlib.Core.Path.{_≡_, sym, _∙_, ap}
+-- `machine::binate::binate_place` meets its contract. The loop's invariant: no place below `place` is binate in the table of the words. The
+-- measure is the number of places left. Assumes nothing.
+use mathlib.Core.Path.{_≡_, refl, sym, _∙_, ap}
 use mathlib.Core.Bool.{false}
 use Prim.Native.Nat.{ℕ, _-_, _≤_, _<_}
 use native.Mathlib.Omega.{arith}
 use borrow.Author.Count.{below-none, below-more}
 use borrow.Author.Needs.{needs}
 use Rattle.numbers.proofs.FirstLaws.{first-at, first-fails}
+use Rattle.table.specs.declared.table.Table.{Table}
 use Rattle.table.specs.Inputs.{found}
+use Rattle.machine.specs.Words.{rowWords}
 use Rattle.machine.specs.Binate.{binateAt}
 use Rattle.machine.proofs.BinateLaws.{binate-place-search}
 use Rattle.machine.proofs.binate.binate_place.Statement.{statement}
 use Rattle.machine.proofs.binate.binate_place.Tie as tie
 
 abbrev Inv-loop : tie.InvT-loop
-Inv-loop table n place₀ place = (place ≤ n) × ((p : ℕ) → p < place → binateAt table p ≡ false)
+Inv-loop words n place₀ place =
+    (place ≤ n) × ((t : Table) → t .n ≤ 8 → t .n ≡ n → words ≡ rowWords t → (p : ℕ) → p < place → binateAt t p ≡ false)
 
 abbrev μ-loop : tie.MeasureT-loop
-μ-loop table n place₀ place = n - place
+μ-loop words n place₀ place = n - place
+
+row-words-requires : tie.Need-row-words-requires Inv-loop μ-loop
+row-words-requires c κs = search needs
 
 cast-n : tie.Need-cast-n Inv-loop μ-loop
 cast-n c = search needs
 
 loop-holds : tie.Need-loop-holds Inv-loop μ-loop
-loop-holds c = (omega arith, below-none _)
+loop-holds c = (omega arith, λ t h n e. below-none _)
 
 binate-at-requires : tie.Need-binate-at-requires Inv-loop μ-loop
 binate-at-requires c κs = search needs
 
+-- the table that came in is one of the words
+abbrev table : tie.At-loop Inv-loop μ-loop → Table
+table c = c .before .before .before .args .table
+
+passed : (c : tie.At-loop Inv-loop μ-loop) (p : ℕ) → p < c .loop .place → binateAt (table c) p ≡ false
+passed c = c .loop .inv .1 (table c) (c .before .before .before .pre) refl (c .before .before .row-words .ensures)
+
 returns : tie.Need-returns Inv-loop μ-loop
 returns c =
-    let at-head = c .before .before .before .loop in
-    let table = c .before .before .before .before .before .args .table in
+    let head = c .before .before .before .before in
+    let t = table head in
+    let words-are = head .before .before .row-words .ensures in
     sym
     (ap found
-    (binate-place-search table
-    ∙ first-at (binateAt table) (table .n) 0 (at-head .place)
+    (binate-place-search t
+    ∙ first-at (binateAt t) (t .n) 0 (head .loop .place)
     record {
       start = omega arith;
       inside = omega arith;
-      passes = sym (c .before .binate-at .ensures) ∙ c .if1 .taken;
-      before = λ p l h. at-head .inv .1 p h;
+      passes = sym (c .before .binate-at .ensures t (omega arith) (omega arith) words-are) ∙ c .if1 .taken;
+      before = λ p l h. passed head p h;
     }))
 
 add-place : tie.Need-add-place Inv-loop μ-loop
@@ -51,15 +65,15 @@ loop-less c = search needs
 
 loop-again : tie.Need-loop-again Inv-loop μ-loop
 loop-again c =
-    (omega arith, below-more _ _ (c .before .before .before .loop .inv .1) (sym (c .before .binate-at .ensures) ∙ c .if1 .left))
+    let head = c .before .before .before .before in (
+      omega arith,
+      λ t h n e. below-more _ _ (head .loop .inv .1 t h n e) (sym (c .before .binate-at .ensures t h (omega arith) e) ∙ c .if1 .left),
+    )
 
 returns-2 : tie.Need-returns-2 Inv-loop μ-loop
 returns-2 c =
-    let table = c .before .before .before .args .table in
-    sym
-    (ap found
-    (binate-place-search table
-    ∙ first-fails (binateAt table) (table .n) 0 (λ p l h. c .before .loop .inv .1 p (omega arith))))
+    let t = table (c .before) in
+    sym (ap found (binate-place-search t ∙ first-fails (binateAt t) (t .n) 0 (λ p l h. passed (c .before) p (omega arith))))
 
 pub binate-place-spec : {M : Type 1} → statement M
 binate-place-spec =
@@ -67,6 +81,7 @@ binate-place-spec =
     (tie.spec
     Inv-loop
     μ-loop
+    row-words-requires
     cast-n
     loop-holds
     binate-at-requires

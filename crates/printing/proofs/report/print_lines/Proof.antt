@@ -14,13 +14,16 @@ use Rattle.printing.proofs.report.print_lines.Statement.{statement}
 use Rattle.printing.proofs.report.print_lines.Tie as tie
 
 abbrev Inv-loop : tie.InvT-loop
-Inv-loop input out₀ used₀ progress₀ left₀ out used progress left = (length out ≡ 65536) × (used ≤ 65536) × Bounded progress × (left ≤ 65538)
+Inv-loop input steps out₀ used₀ progress₀ left₀ out used progress left = (length out ≡ 65536) × (used ≤ 65536) × Bounded progress × (left ≤ 65538)
 
 abbrev μ-loop : tie.MeasureT-loop
-μ-loop input out₀ used₀ progress₀ left₀ out used progress left = left
+μ-loop input steps out₀ used₀ progress₀ left₀ out used progress left = left
 
 large-buffer-requires : tie.Need-large-buffer-requires Inv-loop μ-loop
 large-buffer-requires c κs = search needs
+
+step-table-requires : tie.Need-step-table-requires Inv-loop μ-loop
+step-table-requires c κs = search needs
 
 at-start-requires : tie.Need-at-start-requires Inv-loop μ-loop
 at-start-requires c κs = search needs
@@ -29,7 +32,7 @@ add-left : tie.Need-add-left Inv-loop μ-loop
 add-left c = search needs
 
 loop-holds : tie.Need-loop-holds Inv-loop μ-loop
-loop-holds c = (sym (c .before .large-buffer .ensures), omega arith, subst Bounded (sym (c .at-start .ensures)) bounded-start, omega arith)
+loop-holds c = (sym (c .before .before .large-buffer .ensures), omega arith, subst Bounded (sym (c .at-start .ensures)) bounded-start, omega arith)
 
 is-done-requires : tie.Need-is-done-requires Inv-loop μ-loop
 is-done-requires c κs = search needs
@@ -51,35 +54,40 @@ room : (c : tie.Joined2 Inv-loop μ-loop) → c .if2 .used + 4096 ≤ 65536
 room c = ⊎-elim (λ w. omega (arith, w)) (λ w. omega (arith, w)) (c .if2 .came)
 
 sub-next-line : tie.Need-sub-next-line Inv-loop μ-loop
-sub-next-line c = omega (arith, room (c .before))
+sub-next-line c = omega (arith, room (c .before .before))
 
 part-out-start : tie.Need-part-out-start Inv-loop μ-loop
-part-out-start c = omega (arith, room (c .before))
+part-out-start c = omega (arith, room (c .before .before))
 
 part-out-end : tie.Need-part-out-end Inv-loop μ-loop
-part-out-end c = omega (arith, c .before .before .before .before .before .loop .inv .0)
+part-out-end c = omega (arith, c .before .before .before .before .before .before .loop .inv .0)
 
 next-line-requires : tie.Need-next-line-requires Inv-loop μ-loop
 next-line-requires c κs =
-    let loop = c .before .before .before .before .before .before .loop in
-    let used = c .before .before .if2 .used in
-    (c .before .before .before .before .before .before .before .before .before .before .pre, loop .inv .2, rw (mid-len used 65536 (loop .out) (omega (arith, loop .inv .0))) (omega (arith, room (c .before .before))))
+    let at = c .before .before .before .before .before .before .before in
+    let used = c .before .before .before .if2 .used in
+    let tabled = at .before .before in (
+      tabled .before .before .before .pre,
+      at .loop .inv .2,
+      rw (mid-len used 65536 (at .loop .out) (omega (arith, at .loop .inv .0))) (omega (arith, room (c .before .before .before))),
+      tabled .step-table .ensures,
+    )
 
 add-used : tie.Need-add-used Inv-loop μ-loop
-add-used c = omega (arith, room (c .before .before .before .before .before), c .before .before .next-line .ensures .1 .1)
+add-used c = omega (arith, room (c .before .before .before .before .before .before), c .before .before .next-line .ensures .1 .1)
 
 sub-left : tie.Need-sub-left Inv-loop μ-loop
-sub-left c = omega (arith, c .before .before .before .before .before .before .before .before .before .loop-test .taken)
+sub-left c = omega (arith, c .before .before .before .before .before .before .before .before .before .before .loop-test .taken)
 
 loop-less : tie.Need-loop-less Inv-loop μ-loop
-loop-less c = omega (arith, c .before .before .before .before .before .before .before .before .before .loop-test .taken)
+loop-less c = omega (arith, c .before .before .before .before .before .before .before .before .before .before .loop-test .taken)
 
 loop-again : tie.Need-loop-again Inv-loop μ-loop
 loop-again c =
     let call = c .before .before .before .next-line in
-    let join = c .before .before .before .before .before .before in
+    let join = c .before .before .before .before .before .before .before in
     let loop = join .before .before .before .before .loop in
-    (same-len-mid (join .if2 .used) (65536 - join .if2 .used) (loop .out) (call .last .1 .1 .0) (search needs) ∙ loop .inv .0, omega (arith, room join, call .ensures .1 .1), call .ensures .1 .0, omega (arith, loop .inv .3))
+    (same-len-mid (join .if2 .used) (65536 - join .if2 .used) (loop .out) (call .last .1 .1 .1 .0) (search needs) ∙ loop .inv .0, omega (arith, room join, call .ensures .1 .1), call .ensures .1 .0, omega (arith, loop .inv .3))
 
 array-share-prefix-out-2 : tie.Need-array-share-prefix-out-2 Inv-loop μ-loop
 array-share-prefix-out-2 c = omega (arith, c .before .loop .inv)
@@ -100,6 +108,7 @@ print-lines-spec =
     Inv-loop
     μ-loop
     large-buffer-requires
+    step-table-requires
     at-start-requires
     add-left
     loop-holds

@@ -72,7 +72,9 @@ was-read c =
     head-done (headAt 1 (now (a .input)) (a .at)) (c .before .before .read-head .ensures) (c .enum-told .given .1)
 
 decided-job-requires : tie.Need-decided-job-requires
-decided-job-requires c κs = let a = start-of c .args in head-taken 1 (now (a .input)) (a .at) (field-of c) (was-read c)
+decided-job-requires c κs =
+    let a = start-of c .args in
+    (head-taken 1 (now (a .input)) (a .at) (field-of c) (was-read c), start-of c .pre .6)
 
 -- the numbers of the job fit their types
 held : (c : tie.After-decided-job) → Held (c .decided-job .result)

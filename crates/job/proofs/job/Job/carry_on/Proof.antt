@@ -134,21 +134,25 @@ returns-4 c =
 capped : (c : tie.Else4) → self (told (c .before .before)) .k + budget (told (c .before .before)) ≤ cap
 capped c = omega (arith, sub-if4 (c .before .before))
 
+step-table-requires : tie.Need-step-table-requires
+step-table-requires c κs = search needs
+
 steps-requires : tie.Need-steps-requires
 steps-requires c κs =
-    let at = c .before .before in
+    let left = c .before .before in
+    let at = left .before .before in
     let says = told at .before .before .job-status .ensures in
     let done = told at .enum-told .given .1 in
-    (job-inputs (self (told at)) says done, job-sound (self (told at)) says done, is-open at, capped c)
+    (job-inputs (self (told at)) says done, job-sound (self (told at)) says done, is-open at, capped left, c .before .step-table .ensures)
 
 sub-made : tie.Need-sub-made
 sub-made c =
-    let at = c .before .before .before .before .before in
+    let at = c .before .before .before .before .before .before .before in
     omega (arith, run-grows (self (told at)) (budget (told at)), ap (λ (j : Job). j .k) (c .before .before .steps .ensures))
 
 returns-5 : tie.Need-returns-5
 returns-5 c =
-    let left = c .before .before .before in
+    let left = c .before .before .before .before .before in
     let at = left .before .before in
     let j = self (told at) in
     let b = budget (told at) in
@@ -170,6 +174,7 @@ carry-on-spec =
     sub-if4
     refused-requires-3
     returns-4
+    step-table-requires
     steps-requires
     sub-made
     returns-5)

@@ -1,0 +1,280 @@
+-- The loop of `chunk` beside the machine. Its job keeps the vectors that it came with; those of the machine are v and s, whose sums the
+-- loop has. With them the job stands where the machine does (`Stands` of SteppingLaws), and v is small enough for places of 16 bits.
+-- Assumes nothing.
+use mathlib.Core.Path.{_≡_, refl, sym, _∙_, ap, subst}
+use mathlib.Core.Logic.{_≢_}
+use mathlib.Core.Bool.{Bool, true, false}
+use mathlib.Core.List.{List}
+use mathlib.Core.Option.{Option, some, none}
+use Prim.Native.Nat.{ℕ, _+_, _*_, _/_, _≤_, _<_}
+use native.Mathlib.Omega.{arith}
+use lib.Dec.{eqb}
+use lib.ListN.{length, getD}
+use lib.IntN.{ℤ, pos}
+use Rattle.table.specs.declared.table.Table.{Table}
+use Rattle.table.specs.Table.{value}
+use Rattle.table.specs.Gate.{inRange}
+use Rattle.table.specs.Inputs.{found}
+use Rattle.table.proofs.TableLaws.{rows-le}
+use Rattle.machine.specs.declared.vector.Vector.{Vector}
+use Rattle.machine.specs.Failing.{failing}
+use Rattle.machine.specs.Vector.{correctedBy, sameVector}
+use Rattle.machine.specs.Binate.{zeros}
+use Rattle.machine.specs.Power.{highest}
+use Rattle.machine.proofs.VectorLaws.{length-corrected}
+use Rattle.machine.proofs.FailingLaws.{failing-some}
+use Rattle.machine.proofs.RangeLaws.{in-range-correct, in-range-wider, corrected-in-range}
+use Rattle.job.specs.declared.job.Job.{Job}
+use Rattle.job.specs.declared.job.Stage.{Stage}
+use Rattle.job.specs.declared.job.Stage.the-variants as Stage′
+use Rattle.lanes.specs.Sums.{magnitude, vectorSums, Narrow}
+use Rattle.lanes.specs.Codes.{rowCode, foundCode}
+use Rattle.job.specs.Machine.{withStage, run}
+use Rattle.job.specs.Sound.{cap, Ranged, Sound}
+use Rattle.lanes.proofs.SumsLaws.{sums-narrow, sums-first, magnitude-corrected}
+use Rattle.job.proofs.MachineLaws.{marked-power, marked-other}
+use Rattle.job.proofs.StepSound.{with-stage-same}
+use Rattle.job.proofs.SteppingLaws.{Stands, stands-start, stands-found, stands-row, stands-open, stands-looped, moved, stands-next, Bounded, stands-bounded}
+
+-- ---- the code of the row found
+
+-- half of a row's code is the row
+half-code : (y : Bool) (r : ℕ) → rowCode y r / 2 ≡ r
+half-code true r = omega arith
+half-code false r = omega arith
+
+-- the code of one of 256 rows is below 512
+code-below : (y : Bool) (r : ℕ) → r < 256 → rowCode y r < 512
+code-below true r h = omega arith
+code-below false r h = omega arith
+
+module _ (t : Table) (v : Vector) {next : ℕ} (e : next ≡ foundCode t (failing t v)) where
+  -- 512 is no row's code: no row fails
+  no-row : t .n ≤ 8 → next ≡ 512 → failing t v ≡ none
+  no-row n is = by (failing t v) refl e
+    where
+      by : (o : Option ℕ) → failing t v ≡ o → next ≡ foundCode t o → failing t v ≡ none
+      by none f g = f
+      by (some r) f g =
+          let row : r < 256 = omega (arith, failing-some t v r f .inside, rows-le n) in
+          absurd (omega (arith, code-below (value t r) r row))
+
+  -- any other number is the code of the lowest failing row, which is its half
+  row-is : next ≢ 512 → (failing t v ≡ some (next / 2)) × (next ≡ rowCode (value t (next / 2)) (next / 2))
+  row-is other = by (failing t v) refl e
+    where
+      by : (o : Option ℕ) → failing t v ≡ o → next ≡ foundCode t o
+          → (failing t v ≡ some (next / 2)) × (next ≡ rowCode (value t (next / 2)) (next / 2))
+      by none f g = absurd (other g)
+      by (some r) f g =
+          let half : r ≡ next / 2 = sym (ap (λ (x : ℕ). x / 2) g ∙ half-code (value t r) r) in
+          (f ∙ ap some half, g ∙ ap (λ (x : ℕ). rowCode (value t x) x) half)
+
+-- ---- where the loop stands
+
+-- the loop's job with the vectors v and s
+abbrev pub withVectors : Vector → Vector → Job → Job
+withVectors v s j = record { table = j .table; k = j .k; v = v; mark = j .mark; s = s; counts = j .counts; stage = j .stage }
+
+-- the loop's job at its mark
+abbrev pub marking : Job → Job
+marking j = record { table = j .table; k = j .k; v = j .v; mark = j .k; s = j .s; counts = zeros; stage = j .stage }
+
+-- the sums are those of v and of s, with which the job stands at the machine's after m steps from `start`; v grows by 9 a step
+pub record Held (start : Job) (m : ℕ) (j : Job) (sums copy : List ℤ) : Type 0 where
+  pub v : Vector
+  pub s : Vector
+  pub current : sums ≡ vectorSums v
+  pub copied : copy ≡ vectorSums s
+  pub stands : Stands start m (withVectors v s j)
+  pub small : magnitude v ≤ 14000 + 9 * m
+
+-- the sums of a sound open job, where the loop begins
+pub held-start : {j : Job} {sums copy : List ℤ} → Sound j → j .stage ≡ Stage′.Open → magnitude (j .v) ≤ 14000
+    → sums ≡ vectorSums (j .v) → copy ≡ vectorSums (j .s) → Held j 0 j sums copy
+held-start {j} sound e small current copied = record {
+  v = j .v;
+  s = j .s;
+  current = current;
+  copied = copied;
+  stands = stands-start sound e;
+  small = omega arith;
+}
+
+-- what the contracts of the code say of any vectors that have the sums: of `lowest`, `correct`, `same_sums` and `with_sums`
+abbrev pub Searches : Table → List ℤ → ℕ → Type 0
+Searches t sums next =
+    (k : ℕ) (v : Vector) → length (v .a) ≡ 8 → inRange k (t .n) (v .a) (v .b) ≡ true → sums ≡ vectorSums v
+    → next ≡ foundCode t (failing t v)
+
+abbrev pub Corrects : List ℤ → ℕ → List ℤ → Type 0
+Corrects sums code after =
+    (v : Vector) (y : Bool) (row : ℕ) → length (v .a) ≡ 8 → row < 256 → code ≡ rowCode y row → sums ≡ vectorSums v
+    → after ≡ vectorSums (correctedBy y row v)
+
+abbrev pub Compares : Table → List ℤ → List ℤ → Bool → Type 0
+Compares t sums copy same =
+    (k : ℕ) (v s : Vector) → length (v .a) ≡ 8 → length (s .a) ≡ 8
+    → inRange k (t .n) (v .a) (v .b) ≡ true → inRange k (t .n) (s .a) (s .b) ≡ true
+    → sums ≡ vectorSums v → copy ≡ vectorSums s → same ≡ sameVector v s
+
+abbrev pub Restores : Job → List ℤ → List ℤ → Stage → Job → Type 0
+Restores j sums copy x r =
+    (v s : Vector) → length (v .a) ≡ 8 → length (s .a) ≡ 8 → sums ≡ vectorSums v → copy ≡ vectorSums s → r ≡ withStage x (withVectors v s j)
+
+-- ---- a turn of the loop
+
+-- what `chunk` asks of its job and its budget
+pub record Begun (start : Job) (budget : ℕ) : Type 0 where
+  pub inputs : start .table .n ≤ 8
+  pub sound : Sound start
+  pub capped : start .k + budget ≤ cap
+  pub few : budget ≤ 2000
+
+-- the loop's invariant: `made` of the budget's steps are made, and `next` is what the search by v found
+pub record Turned (start : Job) (budget made : ℕ) (j : Job) (sums copy : List ℤ) (next : ℕ) : Type 0 where
+  pub held : Held start made j sums copy
+  pub search : next ≡ foundCode (start .table) (failing (start .table) (held .v))
+  pub within : made ≤ budget
+
+module _ {start : Job} {budget : ℕ} (b : Begun start budget) where
+  module _ {m : ℕ} {j : Job} {sums copy : List ℤ} (h : m ≤ budget) (c : Held start m j sums copy) where
+    -- no number of the loop's job wraps in a step
+    bounded : Bounded (withVectors (c .v) (c .s) j)
+    bounded = let few : start .k + m ≤ cap = omega (arith, b .capped) in stands-bounded (b .inputs) (b .sound) few (c .stands)
+
+    -- v and s lie within ±K
+    ranged : (x : Vector) → Ranged (j .k) (j .table .n) x → inRange (j .k) (start .table .n) (x .a) (x .b) ≡ true
+    ranged x r = subst (λ (t : Table). inRange (j .k) (t .n) (x .a) (x .b) ≡ true) (c .stands .table) r
+
+    -- the sums fit their places
+    pub held-narrow : Narrow 32000 sums × (getD sums 32 (pos 0) ≡ pos 0)
+    held-narrow =
+        subst (λ (l : List ℤ). Narrow 32000 l × (getD l 32 (pos 0) ≡ pos 0)) (sym (c .current))
+        (sums-narrow (c .v) 32000 (bounded .shaped .weights) (omega (arith, c .small, b .few)), sums-first (c .v))
+
+    -- the search by the sums is the search by v
+    pub held-turned : {next : ℕ} → Searches (start .table) sums next → Turned start budget m j sums copy next
+    held-turned search = record {
+      held = c;
+      search = search (j .k) (c .v) (bounded .shaped .weights) (ranged (c .v) (bounded .current)) (c .current);
+      within = h;
+    }
+
+  module _ {m : ℕ} {j : Job} {sums copy : List ℤ} {next : ℕ} (t : Turned start budget m j sums copy next) where
+    abbrev v : Vector
+    v = t .held .v
+
+    abbrev s : Vector
+    s = t .held .s
+
+    abbrev stands : Stands start m (withVectors v s j)
+    stands = t .held .stands
+
+    pub turned-bounded : Bounded (withVectors v s j)
+    turned-bounded = bounded (t .within) (t .held)
+
+    -- the job with its vectors, in a stage
+    restored : {x : Stage} {r : Job} → Restores j sums copy x r → r ≡ withStage x (withVectors v s j)
+    restored restores =
+        let shaped = turned-bounded .shaped in
+        restores v s (shaped .weights) (shaped .copied) (t .held .current) (t .held .copied)
+
+    -- where no row is found, the job is found, and stays so
+    pub turned-found : {r : Job} → next ≡ 512 → Restores j sums copy Stage′.Found r → r ≡ run budget start
+    turned-found is restores =
+        restored restores ∙ stands-found stands budget (t .within) (ap found (no-row (start .table) v (t .search) (b .inputs) is))
+
+    module _ (other : next ≢ 512) where
+      abbrev row : ℕ
+      row = next / 2
+
+      abbrev sign : Bool
+      sign = value (start .table) row
+
+      row-found : found (failing (start .table) v) ≡ found (some row)
+      row-found = ap found (row-is (start .table) v (t .search) other .0)
+
+      coded : next ≡ rowCode sign row
+      coded = row-is (start .table) v (t .search) other .1
+
+      -- the row that is found is one of the 256, and its code is one of 512
+      pub turned-row : next / 2 < 256
+      turned-row = omega (arith, stands-row stands row-found, rows-le (b .inputs))
+
+      pub turned-code : next < 512
+      turned-code = omega (arith, coded, code-below sign row turned-row)
+
+      -- the job is then the machine's
+      pub turned-open : {r : Job} → budget ≤ m → Restores j sums copy Stage′.Open r → r ≡ run budget start
+      turned-open all restores =
+          restored restores
+          ∙ with-stage-same Stage′.Open (withVectors v s j) (stands .stage)
+          ∙ stands-open stands row-found
+          ∙ ap (λ (x : ℕ). run x start) (omega (arith, t .within))
+
+      -- the vector after the correction by the row
+      abbrev u : Vector
+      u = correctedBy sign row v
+
+      u-weights : length (u .a) ≡ 8
+      u-weights = length-corrected sign row v ∙ turned-bounded .shaped .weights
+
+      -- the job after the correction, but for its vectors
+      abbrev after : Job
+      after = moved row (j .v) j
+
+      module _ {corrected : List ℤ} (w : Corrects sums next corrected) where
+        u-sums : corrected ≡ vectorSums u
+        u-sums = w v sign row (turned-bounded .shaped .weights) turned-row coded (t .held .current)
+
+        u-small : magnitude u ≤ 14000 + 9 * (m + 1)
+        u-small = omega (arith, magnitude-corrected sign row v (turned-bounded .shaped .weights), t .held .small)
+
+        module _ {same : Bool} (compares : Compares (start .table) corrected copy same) where
+          -- to compare the sums is to compare the vector with s
+          compared : same ≡ sameVector u s
+          compared =
+              let k = j .k in
+              let n = start .table .n in
+              let was = in-range-correct k n (v .a) (v .b) .0 (ranged (t .within) (t .held) v (turned-bounded .current)) in
+              let kept = in-range-correct k n (s .a) (s .b) .0 (ranged (t .within) (t .held) s (turned-bounded .copied)) in
+              compares (k + 1) u s u-weights (turned-bounded .shaped .copied)
+              (in-range-correct (k + 1) n (u .a) (u .b) .1
+              (corrected-in-range k n sign row v (stands-row stands row-found) (turned-bounded .shaped .weights) was))
+              (in-range-correct (k + 1) n (s .a) (s .b) .1 (in-range-wider (k + 1) (omega arith) kept))
+              u-sums (t .held .copied)
+
+          -- back at s the job is looped, and stays so
+          pub turned-looped : {r : Job} → m < budget → same ≡ true → Restores after corrected copy Stage′.Looped r → r ≡ run budget start
+          turned-looped more is restores =
+              restores u s u-weights (turned-bounded .shaped .copied) u-sums (t .held .copied)
+              ∙ stands-looped stands row-found refl refl budget more (sym compared ∙ is)
+
+          module _ (differs : same ≡ false) where
+            apart : sameVector u s ≡ false
+            apart = sym compared ∙ differs
+
+            -- elsewhere the loop goes on: at a mark the sums of v are those of s too
+            pub turned-marked : {x : Job} {copies : List ℤ} → eqb (highest (j .k + 1)) (j .k + 1) ≡ true → x ≡ marking after
+                → copies ≡ corrected → Held start (m + 1) x corrected copies
+            turned-marked power is same = rw (is, same) record {
+              v = u;
+              s = u;
+              current = u-sums;
+              copied = u-sums;
+              stands = stands-next stands row-found refl refl apart (sym (marked-power (moved row u (withVectors v s j)) power));
+              small = u-small;
+            }
+
+            -- and else those of s are as they were
+            pub turned-other : {x : Job} {copies : List ℤ} → eqb (highest (j .k + 1)) (j .k + 1) ≡ false → x ≡ after
+                → copies ≡ copy → Held start (m + 1) x corrected copies
+            turned-other power is same = rw (is, same) record {
+              v = u;
+              s = s;
+              current = u-sums;
+              copied = t .held .copied;
+              stands = stands-next stands row-found refl refl apart (sym (marked-other (moved row u (withVectors v s j)) power));
+              small = u-small;
+            }

@@ -1,0 +1,46 @@
+-- What `Job::decided` gives of a table that keeps its format: the machine's job after the whole call budget, which is what one carry-on of
+-- the fresh job gives. Assumes nothing.
+use mathlib.Core.Path.{_≡_, refl, sym, ap, _∙_}
+use mathlib.Core.List.{[], _∷_}
+use Prim.Native.Nat.{_+_}
+use native.Mathlib.Omega.{arith}
+use borrow.Author.Tests.{le-ltb}
+use Rattle.table.specs.declared.table.Table.{Table}
+use Rattle.cell.specs.Refusal.{Answered, answered, checked, NoneBroken, none, also}
+use Rattle.cell.specs.Calls.{tableRules}
+use Rattle.cell.proofs.RefusalLaws.{none-broken-answered}
+use Rattle.cell.proofs.TableChecked.{kept-inputs}
+use Rattle.job.specs.declared.job.Job.{Job}
+use Rattle.job.specs.declared.job.Stage.the-variants.{Open}
+use Rattle.job.specs.Machine.{run, fresh}
+use Rattle.job.specs.Sound.{cap}
+use Rattle.job.specs.Calls.{callBudget, decidedJob, jobRules, budgetRange, pastCap, ifOpen, carryOn}
+use Rattle.job.proofs.MachineLaws.{fresh-table, fresh-k, open-or-ended, run-ended}
+use Rattle.job.proofs.SoundLaws.{is-sound-correct}
+use Rattle.job.proofs.FreshSound.{fresh-sound}
+use Rattle.job.proofs.JobChecked.{job-all-kept, if-open-ended}
+
+module _ (t : Table) (kept : NoneBroken (tableRules t [])) where
+  -- the table is taken
+  pub decided-answered : decidedJob t ≡ answered (run callBudget (fresh t))
+  decided-answered = none-broken-answered (tableRules t []) (answered (run callBudget (fresh t))) kept
+
+  kept-rules : NoneBroken (jobRules (fresh t) (budgetRange callBudget ∷ []))
+  kept-rules = job-all-kept (fresh t) (rw (fresh-table t) kept) (is-sound-correct (fresh t) .1 (fresh-sound t (kept-inputs t kept))) (also refl none)
+
+  -- and so is a carry-on of its fresh job, which gives the same
+  pub decided-carried : carryOn (fresh t) callBudget ≡ decidedJob t
+  decided-carried =
+      none-broken-answered (jobRules (fresh t) (budgetRange callBudget ∷ [])) later kept-rules
+      ∙ by (open-or-ended ((fresh t) .stage))
+      ∙ sym decided-answered
+    where
+      below : Answered Job
+      below = checked (pastCap (fresh t) callBudget ∷ []) (answered (run callBudget (fresh t)))
+
+      later : Answered Job
+      later = ifOpen ((fresh t) .stage) below (answered (fresh t))
+
+      by : Dec ((fresh t) .stage ≡ Open) → later ≡ answered (run callBudget (fresh t))
+      by (yes e) = rw (e, le-ltb cap ((fresh t) .k + callBudget) (omega (arith, fresh-k t)))
+      by (no e) = sym (if-open-ended ((fresh t) .stage) below (answered (fresh t)) e) ∙ ap answered (sym (run-ended callBudget (fresh t) e))

@@ -1,0 +1,9 @@
+pub mod SumsLaws
+pub mod DoublingLaws
+pub mod WeightLaws
+pub mod Entries
+pub mod SharedLaws
+pub mod CorrectionLaws
+pub mod KeyLaws
+pub mod BlockLaws
+pub mod SearchLaws

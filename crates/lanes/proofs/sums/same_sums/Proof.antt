@@ -1,0 +1,116 @@
+-- `sums::same_sums` meets its contract. The loop's invariant: the sums agree at each place below `at`. The measure is what is left of the
+-- places. Assumes nothing.
+use mathlib.Core.Path.{_≡_, sym, _∙_, ap}
+use mathlib.Core.List.{List}
+use Prim.Native.Nat.{ℕ, _-_, _^_, _≤_, _<_}
+use native.Mathlib.Omega.{arith}
+use borrow.Author.Count.{below-more}
+use borrow.Author.Needs.{needs}
+use lib.Pow.{pow-mono}
+use lib.ListN.{getD}
+use lib.IntN.{ℤ, pos}
+use mir.Syntax.{w16}
+use mir.Val.{toZ, ofZ, SFits}
+use mir.Facts.{toZ-ofZ}
+use Rattle.numbers.proofs.TestLaws.{not-passed}
+use Rattle.machine.specs.declared.vector.Vector.{Vector}
+use Rattle.machine.specs.Vector.{sameVector}
+use Rattle.machine.proofs.VectorLaws.{same-vector-correct}
+use Rattle.machine.proofs.RangeLaws.{in-range-correct}
+use Rattle.lanes.specs.Sums.{vectorSums}
+use Rattle.lanes.proofs.WeightLaws.{sums-same}
+use Rattle.lanes.proofs.sums.same_sums.Statement.{statement}
+use Rattle.lanes.proofs.sums.same_sums.Tie as tie
+
+abbrev Inv-loop : tie.InvT-loop
+Inv-loop x y n count at₀ at = (at ≤ count) × ((i : ℕ) → i < at → getD x i (pos 0) ≡ getD y i (pos 0))
+
+abbrev μ-loop : tie.MeasureT-loop
+μ-loop x y n count at₀ at = count - at
+
+block-count-requires : tie.Need-block-count-requires Inv-loop μ-loop
+block-count-requires c κs = search needs
+
+-- there are at most eight blocks
+blocks-le : (c : tie.After-block-count Inv-loop μ-loop) → c .block-count .result ≤ 8
+blocks-le c =
+    let n = c .before .args .n in
+    let most : 2 ^ (n - 5) ≤ 8 = pow-mono {j = 3} (omega arith) in
+    omega (arith, c .block-count .ensures)
+
+add-count : tie.Need-add-count Inv-loop μ-loop
+add-count c = record { fits = omega (arith, blocks-le c) }
+
+loop-holds : tie.Need-loop-holds Inv-loop μ-loop
+loop-holds c = (omega arith, λ i l. absurd (omega arith))
+
+-- a place of the loop is one of the 40
+in-sums : (c : tie.In-loop Inv-loop μ-loop) → c .before .loop .at < 40
+in-sums c = omega (arith, blocks-le (c .before .before))
+
+mul-if1 : tie.Need-mul-if1 Inv-loop μ-loop
+mul-if1 c = record { fits = omega (arith, in-sums c) }
+
+element-copy-out-if1 : tie.Need-element-copy-out-if1 Inv-loop μ-loop
+element-copy-out-if1 c = in-sums c
+
+mul-if1-2 : tie.Need-mul-if1-2 Inv-loop μ-loop
+mul-if1-2 c = record { fits = omega (arith, in-sums (c .before)) }
+
+element-copy-out-if1-2 : tie.Need-element-copy-out-if1-2 Inv-loop μ-loop
+element-copy-out-if1-2 c = in-sums (c .before)
+
+returns : tie.Need-returns Inv-loop μ-loop
+returns c k v s long long-s range range-s x-is y-is =
+    let at = c .before .before .before .before .loop .at in
+    let bits : List ℤ → ℕ = λ sums. ofZ w16 (getD sums at (pos 0)) in
+    let equal : v ≡ s → ⊥ = λ e. c .if1 .taken (ap bits x-is ∙ ap (λ (u : Vector). bits (vectorSums u)) e ∙ sym (ap bits y-is)) in
+    sym (not-passed (sameVector v s) (λ e. equal (same-vector-correct v s .0 e)))
+
+add-at : tie.Need-add-at Inv-loop μ-loop
+add-at c = record { fits = omega (arith, in-sums (c .before .before .before)) }
+
+loop-less : tie.Need-loop-less Inv-loop μ-loop
+loop-less c = search needs
+
+-- integers of 16 bits are equal where their bits are
+same-bits : {x y : ℤ} → SFits w16 x → SFits w16 y → ofZ w16 x ≡ ofZ w16 y → x ≡ y
+same-bits f g e = sym (toZ-ofZ f) ∙ ap (toZ w16) e ∙ toZ-ofZ g
+
+loop-again : tie.Need-loop-again Inv-loop μ-loop
+loop-again c = (
+  omega arith,
+  below-more _ _ (c .before .before .before .before .loop .inv .1)
+      (same-bits (record { sfits = c .before .before .if12 .given }) (record { sfits = c .before .if13 .given }) (c .if1 .left)),
+)
+
+returns-2 : tie.Need-returns-2 Inv-loop μ-loop
+returns-2 c k v s long long-s range range-s x-is y-is =
+    let head = c .before in
+    let n = head .before .before .args .n in
+    let agree = rw (x-is, y-is) at (head .loop .inv .1) in
+    sym
+    (same-vector-correct v s .1
+    (sums-same v s k n long long-s
+    (in-range-correct k n (v .a) (v .b) .0 range)
+    (in-range-correct k n (s .a) (s .b) .0 range-s)
+    (λ i l. agree i (omega (arith, head .before .block-count .ensures)))))
+
+pub same-sums-spec : {M : Type 1} → statement M
+same-sums-spec =
+    tie.close
+    (tie.spec
+    Inv-loop
+    μ-loop
+    block-count-requires
+    add-count
+    loop-holds
+    mul-if1
+    element-copy-out-if1
+    mul-if1-2
+    element-copy-out-if1-2
+    returns
+    add-at
+    loop-less
+    loop-again
+    returns-2)

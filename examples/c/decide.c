@@ -1,0 +1,91 @@
+/* Decides two tables. The second is still open after 100,000 corrections: its job is kept as bytes, as a file would keep it, and carried
+ * on later. The certificate at the end of each is checked. */
+#include <inttypes.h>
+#include <stdio.h>
+#include <string.h>
+
+#include "threshold.h"
+
+/* Two inputs: true where both are. */
+static const uint8_t both[] = {THRESHOLD_RECORD_TABLE, 2, 0x08};
+
+/* Eight inputs: settled after 131,076 corrections. */
+static const uint8_t slow[] = {THRESHOLD_RECORD_TABLE, 8,
+    0x00, 0x00, 0x00, 0x00, 0x00, 0x00, 0xa0, 0xa0, 0x00, 0x00, 0x80, 0x80, 0x80, 0x80, 0xa0, 0xa8,
+    0x00, 0x80, 0xa0, 0xa0, 0xa0, 0xa8, 0xea, 0xea, 0xa0, 0xa0, 0xa8, 0xe8, 0xaa, 0xfa, 0xff, 0xff};
+
+/* Reads a number and moves past it: seven bits a byte, lowest first, all but the last byte with bit 7 set. */
+static int32_t number(const uint8_t **at) {
+    int32_t value = 0;
+    int shift = 0;
+    while (**at & 0x80) {
+        value |= (int32_t)(*(*at)++ & 0x7f) << shift;
+        shift += 7;
+    }
+    return value | (int32_t)*(*at)++ << shift;
+}
+
+/* Reads a signed number z, written as 2z, or as -2z - 1 when negative. */
+static int32_t signed_number(const uint8_t **at) {
+    int32_t code = number(at);
+    return code % 2 == 0 ? code / 2 : -(code + 1) / 2;
+}
+
+/* Prints the weights and T of a gate's record. */
+static void print_gate(int n, const uint8_t *at) {
+    printf("gate, weights");
+    for (int input = 1; input <= n; input++) {
+        printf(" %" PRId32, signed_number(&at));
+    }
+    printf(", T %" PRId32, signed_number(&at));
+}
+
+/* Prints the rows of a witness's record with their counts. */
+static void print_witness(const uint8_t *at) {
+    printf("no gate, witness");
+    for (int32_t pairs = number(&at); pairs > 0; pairs--) {
+        int32_t row = number(&at);
+        printf(" %" PRId32 ":%" PRId32, row, number(&at));
+    }
+}
+
+/* Prints what a call gave: the answer in the record, or the refusal. */
+static void print_answer(const char *name, const uint8_t *record, int64_t length) {
+    printf("%s: ", name);
+    if (length < 0) {
+        printf("refused by %" PRId64 "\n", -length);
+        return;
+    }
+    int n = record[1];
+    const uint8_t *at = record + 2 + ((1 << n) + 7) / 8;
+    switch (threshold_kind(record, (size_t)length)) {
+    case THRESHOLD_RECORD_GATE:
+        print_gate(n, at);
+        break;
+    case THRESHOLD_RECORD_WITNESS:
+        print_witness(at);
+        break;
+    default:
+        printf("open after %" PRId32 " corrections, a job of %" PRId64 " bytes\n", number(&at), length);
+        return;
+    }
+    printf("; checked: %s\n", threshold_check(record, (size_t)length) == 1 ? "yes" : "no");
+}
+
+int main(void) {
+    uint8_t out[THRESHOLD_ROOM];
+    print_answer("both", out, threshold_decide(both, sizeof both, out, sizeof out));
+
+    int64_t length = threshold_decide(slow, sizeof slow, out, sizeof out);
+    print_answer("slow", out, length);
+    if (length < 0 || threshold_kind(out, (size_t)length) != THRESHOLD_RECORD_JOB) {
+        return 1;
+    }
+
+    uint8_t saved[THRESHOLD_ROOM];
+    memcpy(saved, out, (size_t)length);
+    print_answer("slow, no budget", out, threshold_carry_on(saved, (size_t)length, 0, out, sizeof out));
+    print_answer("slow, carried on", out, threshold_carry_on(saved, (size_t)length, THRESHOLD_CALL_BUDGET, out, sizeof out));
+    print_answer("slow, cut short", out, threshold_carry_on(saved, (size_t)length - 1, THRESHOLD_CALL_BUDGET, out, sizeof out));
+    return 0;
+}

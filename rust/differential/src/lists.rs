@@ -1,0 +1,94 @@
+//! Lists of calls on one job. The library gets the record that its last accepted call wrote; beside it the reference's machine runs
+//! unbroken, fed the accepted budgets alone, and says what each call must do.
+
+use crate::compare::{Call, Comparison, Difference, Outcome};
+use crate::random::Random;
+use crate::records::{before_looping_at_a_power, near_cap, table_of, untouched};
+use crate::tables::{samples, table, Family};
+use reference::job::{Job, Stage};
+use reference::record::Record;
+use reference::refusal::Refusal;
+use threshold::ROOM;
+
+/// The lists from random jobs, and the most calls of one.
+const LISTS: u64 = 22_000;
+const CALLS: usize = 40;
+
+/// Compares the lists, and gives their number.
+pub fn compare_lists(comparison: &mut Comparison) -> Result<u64, Difference> {
+    for _ in 0..LISTS {
+        let job = first_job(&mut comparison.random);
+        let most = comparison.random.choose(&[1, 5, 50, 1_000]);
+        list(comparison, job, most)?;
+    }
+    let whole = samples().into_iter().map(|record| untouched(table_of(&record))).filter(Job::is_sound);
+    let jobs: Vec<Job> = whole.chain(before_looping_at_a_power()).collect();
+    for job in &jobs {
+        list(comparison, job.clone(), 100_000)?;
+    }
+    Ok(LISTS + jobs.len() as u64)
+}
+
+/// A fresh open job, or, one time in eight, a sound one near the cap.
+fn first_job(random: &mut Random) -> Job {
+    loop {
+        let family = random.choose(&[Family::Threshold, Family::NearlyThreshold, Family::Unate]);
+        let n = random.choose(&[0, 1, 2, 3, 3, 4, 4, 5, 6, 8]);
+        let table = table_of(&table(random, family, n));
+        let job = if random.one_in(8) { near_cap(random, table) } else { untouched(table) };
+        if job.is_sound() {
+            return job;
+        }
+    }
+}
+
+/// One list: carry-ons with any rooms and budgets, few above `most`, with other calls between.
+fn list(comparison: &mut Comparison, mut machine: Job, most: usize) -> Result<(), Difference> {
+    let mut record = Record::Job(machine.clone()).bytes();
+    for _ in 0..CALLS {
+        let random = &mut comparison.random;
+        if random.one_in(4) {
+            let call = random.choose(&[Call::Decide, Call::Check, Call::Kind, Call::Kinds, Call::Chow, Call::Value(0)]);
+            let room = random.below(200);
+            comparison.compare(call, &record, room)?;
+        } else {
+            let budget = any_budget(random, Job::CAP - machine.k, most);
+            carry_on(comparison, &mut machine, &mut record, budget)?;
+        }
+        if machine.stage != Stage::Open && comparison.random.one_in(4) {
+            break;
+        }
+    }
+    Ok(())
+}
+
+/// A budget up to `most`; or one that no call takes; or one about what is left up to the cap, and above it where that is far.
+fn any_budget(random: &mut Random, left: i64, most: usize) -> u32 {
+    match random.below(8) {
+        0 => random.choose(&[0, 100_001, u32::MAX]),
+        1 if left <= 1_000 => left as u32 + random.below(3) as u32,
+        1 if left <= 100_000 => left as u32 + 1,
+        _ => 1 + random.below(most) as u32,
+    }
+}
+
+/// Compares one carry-on of the record with the machine's. If it is accepted, both go on from what it gave.
+fn carry_on(comparison: &mut Comparison, machine: &mut Job, record: &mut Vec<u8>, budget: u32) -> Result<(), Difference> {
+    let mut carried = machine.clone();
+    let answer = match machine.stage {
+        Stage::Open => carried.carry_on(budget).map(|_| carried.shown().bytes()),
+        _ => Err(Refusal::UnknownKind),
+    };
+    let needed = answer.as_ref().map_or(0, Vec::len);
+    let any = comparison.random.below(ROOM);
+    let room = comparison.random.choose(&[any, needed.saturating_sub(1), needed, needed + 1, ROOM]);
+    let answer = answer.and_then(|bytes| if bytes.len() <= room { Ok(bytes) } else { Err(Refusal::BufferTooShort) });
+    let lent = comparison.random.bytes(room);
+    let expected = Outcome::writing(answer, &lent);
+    let outcome = comparison.compare_with(Call::CarryOn(budget), record, lent, expected)?;
+    if let Some(written) = outcome.written() {
+        *record = written.to_vec();
+        *machine = carried;
+    }
+    Ok(())
+}

@@ -1,0 +1,39 @@
+//! Runs every comparison from one seed and prints how much was compared. Ends at the first difference, which it describes.
+
+use differential::compare::{Comparison, Difference};
+use differential::{
+    damage::{compare_changed_jobs, compare_damaged},
+    lists::compare_lists,
+    verdicts::compare_verdicts,
+};
+use std::process::ExitCode;
+use std::time::Instant;
+
+fn main() -> ExitCode {
+    match compare_all(&mut Comparison::new(1)) {
+        Ok(()) => ExitCode::SUCCESS,
+        Err(difference) => {
+            eprintln!("{difference}");
+            ExitCode::FAILURE
+        }
+    }
+}
+
+fn compare_all(comparison: &mut Comparison) -> Result<(), Difference> {
+    let start = Instant::now();
+    let damaged = compare_damaged(comparison)?;
+    println!("{damaged} damaged records");
+    let jobs = compare_changed_jobs(comparison)?;
+    println!("{jobs} jobs with parts changed");
+    let lists = compare_lists(comparison)?;
+    println!("{lists} lists of calls");
+    let verdicts = compare_verdicts(comparison)?;
+    println!("{verdicts} verdicts");
+    println!("{} calls in all; refused by number:", comparison.calls);
+    for (number, times) in comparison.refused.iter().enumerate().filter(|(_, &times)| times > 0) {
+        println!("{number:4} {times:9}");
+    }
+    assert!((1..=12).chain([14]).all(|number| comparison.refused[number] > 0), "a refusal that was never compared");
+    println!("no difference, {} seconds", start.elapsed().as_secs());
+    Ok(())
+}

@@ -1,0 +1,63 @@
+//! Tables to decide, as kind 1 records.
+
+use crate::random::Random;
+use reference::gate::sum_of_true;
+use reference::record::Record;
+use reference::table::Table;
+
+/// How the values of a random table are made.
+#[derive(Clone, Copy, Debug)]
+pub enum Family {
+    /// By chance, so most have a binate input.
+    Random,
+    /// By a gate.
+    Threshold,
+    /// By a gate but for the rows whose sum is T, which are made by chance: no input with a weight is binate.
+    NearlyThreshold,
+    /// True at some rows made by chance and at those above them, with some inputs inverted.
+    Unate,
+}
+
+/// The record of the table with these values.
+pub fn record(n: usize, value: impl FnMut(usize) -> bool) -> Vec<u8> {
+    Record::Table(Table { n, values: (0..1 << n).map(value).collect() }).bytes()
+}
+
+/// Every table of n inputs.
+pub fn every_table(n: usize) -> impl Iterator<Item = Vec<u8>> {
+    (0..1u64 << (1 << n)).map(move |bits| record(n, |row| bits >> row & 1 == 1))
+}
+
+/// The papers' functions and the marked cases, from the repository's sample for the report.
+pub fn samples() -> Vec<Vec<u8>> {
+    let mut rest = &include_bytes!("../../../samples/papers.bin")[..];
+    let mut samples = Vec::new();
+    while let [_, n, ..] = *rest {
+        let (sample, after) = rest.split_at(2 + (1usize << n).div_ceil(8));
+        samples.push(sample.to_vec());
+        rest = after;
+    }
+    samples
+}
+
+/// A random table of the family.
+pub fn table(random: &mut Random, family: Family, n: usize) -> Vec<u8> {
+    match family {
+        Family::Random => record(n, |_| random.one_in(2)),
+        Family::Threshold => by_gate(random, n, |_, above| above >= 0),
+        Family::NearlyThreshold => by_gate(random, n, |random, above| above > 0 || above == 0 && random.one_in(2)),
+        Family::Unate => {
+            let inverted = random.below(1 << n);
+            let lowest: Vec<usize> = (0..=random.below(2 + n)).map(|_| random.below(1 << n)).collect();
+            record(n, |row| lowest.iter().any(|low| low & (row ^ inverted) == *low))
+        }
+    }
+}
+
+/// A table whose values follow from how far a row's sum is above T, which is some row's sum.
+fn by_gate(random: &mut Random, n: usize, value: impl Fn(&mut Random, i64) -> bool) -> Vec<u8> {
+    let largest = random.choose(&[1, 3, 8, 20]);
+    let weights: Vec<i64> = (0..n).map(|_| random.around_zero(largest)).collect();
+    let threshold = sum_of_true(&weights, random.below(1 << n));
+    record(n, |row| value(random, sum_of_true(&weights, row) - threshold))
+}

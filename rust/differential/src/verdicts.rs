@@ -1,0 +1,64 @@
+//! Tables decided: every table of up to four inputs, the samples, and random tables of up to eight.
+
+use crate::compare::{Call, Comparison, Difference};
+use crate::records::nudged;
+use crate::tables::{every_table, samples, table, Family};
+use threshold::ROOM;
+
+/// Random tables of each family by n, 0 to 8. The reference takes milliseconds for a gate of eight inputs, and a thousandth of that to
+/// see a binate input.
+const RANDOM: [(Family, [usize; 9]); 4] = [
+    (Family::Random, [100, 100, 1_000, 20_000, 100_000, 200_000, 150_000, 100_000, 50_000]),
+    (Family::Threshold, [100, 100, 1_000, 20_000, 60_000, 40_000, 10_000, 2_500, 1_000]),
+    (Family::NearlyThreshold, [100, 100, 1_000, 20_000, 60_000, 40_000, 10_000, 2_500, 1_000]),
+    (Family::Unate, [100, 100, 1_000, 20_000, 60_000, 40_000, 10_000, 2_500, 1_000]),
+];
+
+/// Compares the verdicts of all tables, and gives their number.
+pub fn compare_verdicts(comparison: &mut Comparison) -> Result<u64, Difference> {
+    let mut verdicts = 0;
+    for record in (0..=4).flat_map(every_table).chain(samples()) {
+        verdict(comparison, &record)?;
+        verdicts += 1;
+    }
+    for (family, numbers) in RANDOM {
+        for (n, number) in numbers.into_iter().enumerate() {
+            for _ in 0..number {
+                let record = table(&mut comparison.random, family, n);
+                verdict(comparison, &record)?;
+            }
+            verdicts += number as u64;
+        }
+    }
+    Ok(verdicts)
+}
+
+/// Compares a table's verdict and the check of its certificate; of one in eight also all else that can be asked.
+fn verdict(comparison: &mut Comparison, record: &[u8]) -> Result<(), Difference> {
+    let outcome = comparison.compare(Call::Decide, record, ROOM)?;
+    let answer = outcome.written().expect("a table is decided");
+    comparison.compare(Call::Check, answer, 0)?;
+    if comparison.random.one_in(8) {
+        for room in [answer.len() - 1, answer.len()] {
+            comparison.compare(Call::Decide, record, room)?;
+        }
+        inputs_and_rows(comparison, record)?;
+        inputs_and_rows(comparison, answer)?;
+        let nudged = nudged(&mut comparison.random, answer);
+        comparison.compare(Call::Check, &nudged, 0)?;
+    }
+    Ok(())
+}
+
+/// Compares the kinds and Chow's parameters, with any room, and the value on each row and past the last.
+fn inputs_and_rows(comparison: &mut Comparison, record: &[u8]) -> Result<(), Difference> {
+    for call in [Call::Kinds, Call::Chow] {
+        let room = comparison.random.below(24);
+        comparison.compare(call, record, room)?;
+    }
+    let rows = 1 << record[1];
+    for row in (0..=rows).chain([u32::MAX]) {
+        comparison.compare(Call::Value(row), record, 0)?;
+    }
+    Ok(())
+}

@@ -1,0 +1,16 @@
+//! The threshold cell verdict, written from document 01 and from nothing else: what the proved library is compared with.
+//!
+//! It is naive on purpose. Each function says what the document's sentence says, sums are made anew for each row, and nothing
+//! is kept from one step to the next. Tables, gates, witnesses and jobs come from records here, so what the document says of
+//! them "as an array" (places past n, rows past the table) has no counterpart.
+
+pub mod calls;
+pub mod gate;
+pub mod job;
+pub mod record;
+pub mod refusal;
+pub mod table;
+pub mod witness;
+
+#[cfg(test)]
+mod marked;

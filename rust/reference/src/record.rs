@@ -1,0 +1,211 @@
+//! "Records": what is read from bytes and written as bytes.
+
+use crate::gate::{self, Gate};
+use crate::job::{Job, Vector};
+use crate::refusal::{demand, Refusal};
+use crate::table::Table;
+use crate::witness::{self, Witness};
+
+/// A record, by its kind: 1 to 4.
+#[derive(Clone, Debug, PartialEq, Eq)]
+pub enum Record {
+    Table(Table),
+    Gate(Table, Gate),
+    Witness(Table, Witness),
+    Job(Job),
+}
+
+/// The sender's bytes together with the position reached.
+struct Reader<'a> {
+    bytes: &'a [u8],
+    at: usize,
+}
+
+impl Reader<'_> {
+    fn byte(&mut self) -> Result<u8, Refusal> {
+        let byte = *self.bytes.get(self.at).ok_or(Refusal::EndsEarly)?;
+        self.at += 1;
+        Ok(byte)
+    }
+
+    /// A number: one to three groups of seven bits, lowest first, in shortest form.
+    fn number(&mut self) -> Result<i64, Refusal> {
+        let mut value = 0;
+        for group in 0..3 {
+            let byte = self.byte()?;
+            value += i64::from(byte & 0x7f) << (7 * group);
+            if byte < 0x80 {
+                demand(byte != 0 || group == 0, Refusal::NotShortest)?;
+                return Ok(value);
+            }
+        }
+        Err(Refusal::NotShortest)
+    }
+
+    /// A signed z, written as 2z, or as -2z - 1 when negative.
+    fn signed(&mut self) -> Result<i64, Refusal> {
+        let code = self.number()?;
+        Ok(if code % 2 == 0 { code / 2 } else { -(code + 1) / 2 })
+    }
+
+    /// n and the table bytes: row r is bit r mod 8 of byte r div 8.
+    fn table(&mut self) -> Result<Table, Refusal> {
+        let n = self.number()?;
+        demand(n <= 8, Refusal::InputsAboveEight)?;
+        let rows: usize = 1 << n;
+        let bytes = (0..rows.div_ceil(8)).map(|_| self.byte()).collect::<Result<Vec<u8>, Refusal>>()?;
+        let mut bits = (0..8 * bytes.len()).map(|bit| (bytes[bit / 8] >> (bit % 8)) & 1 == 1);
+        let values = bits.by_ref().take(rows).collect();
+        demand(bits.all(|spare| !spare), Refusal::SpareBit)?;
+        Ok(Table { n: n as usize, values })
+    }
+
+    fn gate(&mut self, n: usize) -> Result<Gate, Refusal> {
+        let mut in_range = || {
+            let number = self.signed()?;
+            demand(number.abs() <= gate::LIMIT, Refusal::GateRange)?;
+            Ok(number)
+        };
+        let weights = (0..n).map(|_| in_range()).collect::<Result<_, _>>()?;
+        Ok(Gate { weights, threshold: in_range()? })
+    }
+
+    fn vector(&mut self, n: usize) -> Result<Vector, Refusal> {
+        let a = (0..n).map(|_| self.signed()).collect::<Result<_, _>>()?;
+        Ok(Vector { a, b: self.signed()? })
+    }
+
+    /// A row list, as a count for each row. Each of its rules is put to `rule` as its field has been read.
+    fn row_list(&mut self, table: &Table, mut rule: impl FnMut(bool) -> Result<(), Refusal>) -> Result<Vec<i64>, Refusal> {
+        let rows = table.values.len() as i64;
+        let mut counts = vec![0; table.values.len()];
+        let mut before = -1;
+        let length = self.number()?;
+        rule(length <= rows)?;
+        for _ in 0..length {
+            let row = self.number()?;
+            rule(row > before && row < rows)?;
+            let count = self.number()?;
+            rule((1..=witness::LIMIT).contains(&count))?;
+            before = row;
+            if row < rows {
+                counts[row as usize] = count;
+            }
+        }
+        Ok(counts)
+    }
+
+    /// A witness: 8 at the field that breaks a rule. An empty list has no count above 0.
+    fn witness(&mut self, table: &Table) -> Result<Witness, Refusal> {
+        let counts = self.row_list(table, |kept| demand(kept, Refusal::RowList))?;
+        demand(counts.iter().any(|&count| count > 0), Refusal::RowList)?;
+        Ok(Witness { counts })
+    }
+
+    /// An open job: every range, and soundness, after the last field.
+    fn job(&mut self, table: Table) -> Result<Job, Refusal> {
+        let k = self.number()?;
+        let v = self.vector(table.n)?;
+        let s = self.vector(table.n)?;
+        let mut all_kept = true;
+        let counts = self.row_list(&table, |kept| {
+            all_kept &= kept;
+            Ok(())
+        })?;
+        let job = Job::open(table, k, v, s, counts);
+        demand(all_kept && job.is_sound(), Refusal::Unsound)?;
+        Ok(job)
+    }
+
+    fn record(&mut self) -> Result<Record, Refusal> {
+        let kind = self.byte()?;
+        demand((1..=4).contains(&kind), Refusal::UnknownKind)?;
+        let table = self.table()?;
+        Ok(match kind {
+            1 => Record::Table(table),
+            2 => {
+                let gate = self.gate(table.n)?;
+                Record::Gate(table, gate)
+            }
+            3 => {
+                let witness = self.witness(&table)?;
+                Record::Witness(table, witness)
+            }
+            _ => Record::Job(self.job(table)?),
+        })
+    }
+}
+
+/// Writes a number: groups of seven bits, lowest first, bit 7 set on all but the last.
+pub fn put_number(out: &mut Vec<u8>, mut value: i64) {
+    while value >= 0x80 {
+        out.push((value % 0x80) as u8 | 0x80);
+        value /= 0x80;
+    }
+    out.push(value as u8);
+}
+
+fn put_signed(out: &mut Vec<u8>, z: i64) {
+    put_number(out, if z >= 0 { 2 * z } else { -2 * z - 1 });
+}
+
+fn put_all_signed(out: &mut Vec<u8>, numbers: &[i64], last: i64) {
+    numbers.iter().chain([&last]).for_each(|&z| put_signed(out, z));
+}
+
+fn put_row_list(out: &mut Vec<u8>, counts: &[i64]) {
+    put_number(out, counts.iter().filter(|&&count| count > 0).count() as i64);
+    for (row, &count) in counts.iter().enumerate().filter(|(_, &count)| count > 0) {
+        put_number(out, row as i64);
+        put_number(out, count);
+    }
+}
+
+impl Record {
+    /// The single record that the bytes are.
+    pub fn read(bytes: &[u8]) -> Result<Record, Refusal> {
+        let mut reader = Reader { bytes, at: 0 };
+        let record = reader.record()?;
+        demand(reader.at == bytes.len(), Refusal::BytesLeft)?;
+        Ok(record)
+    }
+
+    /// The kind byte, 1 to 4.
+    pub fn kind(&self) -> u8 {
+        match self {
+            Record::Table(_) => 1,
+            Record::Gate(..) => 2,
+            Record::Witness(..) => 3,
+            Record::Job(_) => 4,
+        }
+    }
+
+    fn table(&self) -> &Table {
+        match self {
+            Record::Table(table) | Record::Gate(table, _) | Record::Witness(table, _) => table,
+            Record::Job(job) => &job.table,
+        }
+    }
+
+    /// The bytes of the record.
+    pub fn bytes(&self) -> Vec<u8> {
+        let table = self.table();
+        let mut out = vec![self.kind()];
+        put_number(&mut out, table.n as i64);
+        for rows in table.values.chunks(8) {
+            out.push(rows.iter().enumerate().map(|(bit, &value)| u8::from(value) << bit).sum());
+        }
+        match self {
+            Record::Table(_) => {}
+            Record::Gate(_, gate) => put_all_signed(&mut out, &gate.weights, gate.threshold),
+            Record::Witness(_, witness) => put_row_list(&mut out, &witness.counts),
+            Record::Job(job) => {
+                put_number(&mut out, job.k);
+                put_all_signed(&mut out, &job.v.a, job.v.b);
+                put_all_signed(&mut out, &job.s.a, job.s.b);
+                put_row_list(&mut out, &job.counts);
+            }
+        }
+        out
+    }
+}

@@ -1,0 +1,28 @@
+//! "Who causes which number": the refusals that calls on records can give.
+
+/// A refusal, by document 01's number.
+#[derive(Clone, Copy, Debug, PartialEq, Eq)]
+pub enum Refusal {
+    EndsEarly = 1,
+    InputsAboveEight = 2,
+    SpareBit = 3,
+    NotShortest = 4,
+    UnknownKind = 5,
+    BytesLeft = 6,
+    GateRange = 7,
+    RowList = 8,
+    Unsound = 9,
+    Budget = 10,
+    Cap = 11,
+    BufferTooShort = 12,
+    RowPastTable = 14,
+}
+
+/// Refuses unless the rule is kept.
+pub fn demand(kept: bool, otherwise: Refusal) -> Result<(), Refusal> {
+    if kept {
+        Ok(())
+    } else {
+        Err(otherwise)
+    }
+}

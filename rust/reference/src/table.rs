@@ -1,0 +1,70 @@
+//! "Table, gate, witness": the table, and the kinds and Chow's parameters of its inputs.
+
+/// A table of n inputs, 0 to 8: the value of each of the 2^n rows.
+#[derive(Clone, Debug, PartialEq, Eq)]
+pub struct Table {
+    pub n: usize,
+    pub values: Vec<bool>,
+}
+
+/// What making an input true does to the table's value.
+#[derive(Clone, Copy, Debug, PartialEq, Eq)]
+pub enum Kind {
+    Idle = 0,
+    Rising = 1,
+    Falling = 2,
+    Binate = 3,
+}
+
+/// Whether input i, counted from 1, is true in the row: bit i - 1 of the row's number.
+pub fn is_true(row: usize, input: usize) -> bool {
+    (row >> (input - 1)) & 1 == 1
+}
+
+/// The row that differs from this one in having the input true.
+pub fn partner(row: usize, input: usize) -> usize {
+    row | 1 << (input - 1)
+}
+
+impl Table {
+    /// The numbers of the rows.
+    pub fn rows(&self) -> std::ops::Range<usize> {
+        0..1 << self.n
+    }
+
+    /// The lowest row without the input whose value is `before`, and `after` with the input made true.
+    fn lowest_turn(&self, input: usize, before: bool, after: bool) -> Option<usize> {
+        self.rows().find(|&row| !is_true(row, input) && self.values[row] == before && self.values[partner(row, input)] == after)
+    }
+
+    /// The lowest row without the input where making it true turns the table from false to true.
+    pub fn lowest_rise(&self, input: usize) -> Option<usize> {
+        self.lowest_turn(input, false, true)
+    }
+
+    /// The lowest row without the input where making it true turns the table from true to false.
+    pub fn lowest_fall(&self, input: usize) -> Option<usize> {
+        self.lowest_turn(input, true, false)
+    }
+
+    pub fn kind(&self, input: usize) -> Kind {
+        match (self.lowest_rise(input), self.lowest_fall(input)) {
+            (None, None) => Kind::Idle,
+            (Some(_), None) => Kind::Rising,
+            (None, Some(_)) => Kind::Falling,
+            (Some(_), Some(_)) => Kind::Binate,
+        }
+    }
+
+    /// The lowest binate input.
+    pub fn lowest_binate(&self) -> Option<usize> {
+        (1..=self.n).find(|&input| self.kind(input) == Kind::Binate)
+    }
+
+    /// q = 2p - p0: p counts the true rows in which the input is true, p0 all true rows.
+    pub fn chow(&self, input: usize) -> i64 {
+        let p0 = self.rows().filter(|&row| self.values[row]).count() as i64;
+        let p = self.rows().filter(|&row| self.values[row] && is_true(row, input)).count() as i64;
+        2 * p - p0
+    }
+}

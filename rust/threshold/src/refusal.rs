@@ -1,0 +1,76 @@
+//! Refusals by document 01's numbers.
+
+use std::error::Error;
+use std::fmt;
+
+/// Why a call was refused: a number of document 01, "Who causes which number".
+#[derive(Clone, Copy, Debug, PartialEq, Eq, Hash)]
+#[repr(u8)]
+pub enum Refusal {
+    /// The bytes end early.
+    EndsEarly = 1,
+    /// There are more than eight inputs, or a gate has not the table's number of weights.
+    Inputs = 2,
+    /// A spare bit of the table is set.
+    SpareBit = 3,
+    /// A number is not in shortest form, or has over three groups.
+    Number = 4,
+    /// The kind is unknown, or the call does not take it.
+    Kind = 5,
+    /// Bytes are left after the record.
+    BytesLeft = 6,
+    /// A weight or the threshold is beyond 1,000,000 either way.
+    Gate = 7,
+    /// The row list is empty, too long or not rising, or has a row past the table or a count outside 1 to 1,000,000.
+    RowList = 8,
+    /// The job is not sound.
+    Unsound = 9,
+    /// The budget is 0 or above [`CALL_BUDGET`](crate::CALL_BUDGET).
+    Budget = 10,
+    /// The job's corrections with the budget are above [`CAP`](crate::CAP).
+    Cap = 11,
+    /// The answer is longer than the buffer.
+    Room = 12,
+    /// The row is at or above 2^n.
+    Row = 14,
+}
+
+impl Refusal {
+    const ALL: [Refusal; 13] = {
+        use Refusal::*;
+        [EndsEarly, Inputs, SpareBit, Number, Kind, BytesLeft, Gate, RowList, Unsound, Budget, Cap, Room, Row]
+    };
+
+    /// Document 01's number.
+    pub fn number(self) -> u8 {
+        self as u8
+    }
+
+    /// The refusal with this number, if a call can give it.
+    pub fn from_number(number: u8) -> Option<Refusal> {
+        Refusal::ALL.into_iter().find(|refusal| refusal.number() == number)
+    }
+}
+
+impl fmt::Display for Refusal {
+    fn fmt(&self, f: &mut fmt::Formatter) -> fmt::Result {
+        let reason = match self {
+            Refusal::EndsEarly => "the bytes end early",
+            Refusal::Inputs => "more than eight inputs, or a gate's inputs are not the table's",
+            Refusal::SpareBit => "a spare bit of the table is set",
+            Refusal::Number => "a number is not in shortest form",
+            Refusal::Kind => "a kind of record that the call does not take",
+            Refusal::BytesLeft => "bytes are left after the record",
+            Refusal::Gate => "a weight or the threshold is out of range",
+            Refusal::RowList => "the row list breaks its rules",
+            Refusal::Unsound => "the job is not sound",
+            Refusal::Budget => "the budget is not within 1 to 100,000",
+            Refusal::Cap => "the budget passes the cap of 1,000,000 corrections",
+            Refusal::Room => "the buffer is too short",
+            Refusal::Row => "the row is past the table",
+        };
+        write!(f, "refused by {}: {reason}", self.number())
+    }
+}
+
+impl Error for Refusal {}
