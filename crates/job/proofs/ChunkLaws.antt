@@ -7,6 +7,7 @@ use mathlib.Core.Bool.{Bool, true, false}
 use mathlib.Core.List.{List}
 use mathlib.Core.Option.{Option, some, none}
 use Prim.Native.Nat.{ℕ, _+_, _*_, _/_, _≤_, _<_}
+use native.Mathlib.Decide.{decLe}
 use native.Mathlib.Omega.{arith}
 use lib.Dec.{eqb}
 use lib.ListN.{length, getD}
@@ -131,11 +132,18 @@ pub record Begun (start : Job) (budget : ℕ) : Type 0 where
   pub capped : start .k + budget ≤ cap
   pub few : budget ≤ 2000
 
--- the loop's invariant: `made` of the budget's steps are made, and `next` is what the search by v found
+-- `made` of the budget's steps are made, and `next` is what the search by v found
 pub record Turned (start : Job) (budget made : ℕ) (j : Job) (sums copy : List ℤ) (next : ℕ) : Type 0 where
   pub held : Held start made j sums copy
   pub search : next ≡ foundCode (start .table) (failing (start .table) (held .v))
   pub within : made ≤ budget
+
+-- the loop's invariant: `next` is what the search found, or 513 where v is s again and the job is looped
+pub record Going (start : Job) (budget made : ℕ) (j : Job) (sums copy : List ℤ) (next : ℕ) : Type 0 where
+  pub turned : next ≤ 512 → Turned start budget made j sums copy next
+  pub closed : next ≡ 513 → (r : Job) → Restores j sums copy Stage′.Looped r → r ≡ run budget start
+  pub within : made ≤ budget
+  pub known : next ≤ 513
 
 module _ {start : Job} {budget : ℕ} (b : Begun start budget) where
   module _ {m : ℕ} {j : Job} {sums copy : List ℤ} (h : m ≤ budget) (c : Held start m j sums copy) where
@@ -179,6 +187,25 @@ module _ {start : Job} {budget : ℕ} (b : Begun start budget) where
     restored restores =
         let shaped = turned-bounded .shaped in
         restores v s (shaped .weights) (shaped .copied) (t .held .current) (t .held .copied)
+
+    -- what the search found is at most 512
+    turned-most : next ≤ 512
+    turned-most = by (failing (start .table) v) refl (t .search)
+      where
+        by : (o : Option ℕ) → failing (start .table) v ≡ o → next ≡ foundCode (start .table) o → next ≤ 512
+        by none f g = omega arith
+        by (some r) f g =
+            let row : r < 256 = omega (arith, failing-some (start .table) v r f .inside, rows-le (b .inputs)) in
+            omega (arith, code-below (value (start .table) r) r row)
+
+    -- so the loop goes on
+    pub turned-going : Going start budget m j sums copy next
+    turned-going = record {
+      turned = λ h. t;
+      closed = λ e. absurd (omega (arith, turned-most));
+      within = t .within;
+      known = omega (arith, turned-most);
+    }
 
     -- where no row is found, the job is found, and stays so
     pub turned-found : {r : Job} → next ≡ 512 → Restores j sums copy Stage′.Found r → r ≡ run budget start
@@ -246,10 +273,19 @@ module _ {start : Job} {budget : ℕ} (b : Begun start budget) where
               u-sums (t .held .copied)
 
           -- back at s the job is looped, and stays so
-          pub turned-looped : {r : Job} → m < budget → same ≡ true → Restores after corrected copy Stage′.Looped r → r ≡ run budget start
+          turned-looped : {r : Job} → m < budget → same ≡ true → Restores after corrected copy Stage′.Looped r → r ≡ run budget start
           turned-looped more is restores =
               restores u s u-weights (turned-bounded .shaped .copied) u-sums (t .held .copied)
               ∙ stands-looped stands row-found refl refl budget more (sym compared ∙ is)
+
+          pub turned-closed : {x : Job} {copies : List ℤ} {code : ℕ} → m < budget → same ≡ true → x ≡ after → copies ≡ copy → code ≡ 513
+              → Going start budget (m + 1) x corrected copies code
+          turned-closed more is e f marks = rw (e, f, marks) record {
+            turned = λ h. absurd (omega arith);
+            closed = λ z r restores. turned-looped more is restores;
+            within = omega arith;
+            known = omega arith;
+          }
 
           module _ (differs : same ≡ false) where
             apart : sameVector u s ≡ false
@@ -278,3 +314,17 @@ module _ {start : Job} {budget : ℕ} (b : Begun start budget) where
               stands = stands-next stands row-found refl refl apart (sym (marked-other (moved row u (withVectors v s j)) power));
               small = u-small;
             }
+
+  -- after the loop the job with its vectors, in the stage that `next` stands for, is the machine's
+  pub going-ends : {m : ℕ} {j : Job} {sums copy : List ℤ} {next : ℕ} {x : Stage} {r : Job} → Going start budget m j sums copy next
+      → (next < 512 → x ≡ Stage′.Open) × (next ≡ 512 → x ≡ Stage′.Found) × (next ≡ 513 → x ≡ Stage′.Looped)
+      → (next < 512 → budget ≤ m) → Restores j sums copy x r → r ≡ run budget start
+  going-ends {j = j} {sums = sums} {copy = copy} {next = next} {x = x} {r = r} g stage all restores = by (decLe next 511) (decLe next 512)
+    where
+      by : Dec (next ≤ 511) → Dec (next ≤ 512) → r ≡ run budget start
+      by (yes row) _ =
+          turned-open (g .turned (omega arith)) (λ e. omega arith) (all (omega arith)) (subst (λ (y : Stage). Restores j sums copy y r) (stage .0 (omega arith)) restores)
+      by (no more) (yes last) =
+          turned-found (g .turned last) (omega (arith, more)) (subst (λ (y : Stage). Restores j sums copy y r) (stage .1 (omega (arith, more))) restores)
+      by (no more) (no past) =
+          g .closed (omega (arith, past, g .known)) r (subst (λ (y : Stage). Restores j sums copy y r) (stage .2 (omega (arith, past, g .known))) restores)

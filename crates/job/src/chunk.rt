@@ -11,7 +11,7 @@ use lanes::sums::sums_of;
 use lanes::sums::vector_of;
 use machine::power::top_power;
 ghost use mathlib.Core.Path.{_≡_};
-ghost use Prim.Native.Nat.{_+_, _≤_};
+ghost use Prim.Native.Nat.{_+_, _≤_, _<_};
 ghost use lib.ListN.{length};
 ghost use Rattle.machine.specs.declared.vector.Vector.{Vector};
 ghost use Rattle.machine.specs.Scan.{Holds};
@@ -40,6 +40,20 @@ fn with_sums(job: Job, v: &[i16; 40], s: &[i16; 40], stage: Stage) -> Job
     }
 }
 
+// Returns the stage that a number after a step stands for: 513 for v = s, 512 where no row fails, below it the code of a failing row.
+fn stage_of(next: usize) -> Stage
+    requires { ⌜ next ≤ 513 ⌝ }
+    ensures { λ r. ⌜ (next < 512 → r ≡ Stage.Open) × (next ≡ 512 → r ≡ Stage.Found) × (next ≡ 513 → r ≡ Stage.Looped) ⌝ }
+{
+    if next < 512 {
+        return Stage::Open;
+    }
+    if next == 512 {
+        return Stage::Found;
+    }
+    Stage::Looped
+}
+
 // Returns the job after at most 2,000 steps, or at its end. The numbers of v and s are small enough for places of 16 bits. `steps` is the
 // table of steps.
 pub fn chunk(job: Job, budget: u32, steps: &[i16; 2048]) -> Job
@@ -56,28 +70,22 @@ pub fn chunk(job: Job, budget: u32, steps: &[i16; 2048]) -> Job
     let mut s = sums_of(j.s);
     let mut next = lowest(&v, &ones, &keys, table);
     let mut made: u32 = 0;
-    while made < budget {
-        if next == 512 {
-            return with_sums(j, &v, &s, Stage::Found);
-        }
+    while made < budget && next < 512 {
         let row = next / 2;
         j.k = j.k + 1;
         j.counts[row] = j.counts[row] + 1;
         correct(&mut v, steps, next);
         if same_sums(&v, &s, table.n) {
-            return with_sums(j, &v, &s, Stage::Looped);
+            next = 513;
+        } else {
+            if top_power(j.k) == j.k {
+                j.mark = j.k;
+                s = v;
+                j.counts = [0u32; 256];
+            }
+            next = lowest(&v, &ones, &keys, table);
         }
-        if top_power(j.k) == j.k {
-            j.mark = j.k;
-            s = v;
-            j.counts = [0u32; 256];
-        }
-        next = lowest(&v, &ones, &keys, table);
         made = made + 1;
     }
-    if next == 512 {
-        with_sums(j, &v, &s, Stage::Found)
-    } else {
-        with_sums(j, &v, &s, Stage::Open)
-    }
+    with_sums(j, &v, &s, stage_of(next))
 }

@@ -1,18 +1,18 @@
--- `job::chunk::chunk` meets its contract. The loop's invariant is `Turned` of ChunkLaws, which has the laws of a turn; the measure is what
+-- `job::chunk::chunk` meets its contract. The loop's invariant is `Going` of ChunkLaws, which has the laws of a turn; the measure is what
 -- is left of the budget. Assumes nothing.
 use mathlib.Core.Path.{sym, _∙_}
-use mathlib.Core.Logic.{⊎-elim}
-use Prim.Native.Nat.{_+_, _-_, _/_, _<_}
+use mathlib.Core.Logic.{⊎-elim, _≢_}
+use Prim.Native.Nat.{_+_, _-_, _/_, _≤_, _<_}
 use native.Mathlib.Omega.{arith}
 use borrow.Author.Needs.{needs}
-use borrow.Author.Tests.{eq-eqb, ne-eqb}
+use borrow.Author.Tests.{eq-eqb, ne-eqb, ltb-true, ltb-false}
 use Rattle.job.proofs.SteppingLaws.{Bounded}
-use Rattle.job.proofs.ChunkLaws.{withVectors, Held, held-start, Begun, Turned, held-narrow, held-turned, turned-bounded, turned-found, turned-row, turned-code, turned-open, turned-looped, turned-marked, turned-other}
+use Rattle.job.proofs.ChunkLaws.{withVectors, Held, held-start, Begun, Turned, Going, held-narrow, held-turned, turned-bounded, turned-row, turned-going, turned-closed, turned-marked, turned-other, going-ends}
 use Rattle.job.proofs.chunk.chunk.Statement.{statement}
 use Rattle.job.proofs.chunk.chunk.Tie as tie
 
 abbrev Inv-loop : tie.InvT-loop
-Inv-loop budget steps table ones keys j₀ v₀ s₀ next₀ made₀ j v s next made = Turned j₀ budget made j v s next
+Inv-loop budget steps table ones keys j₀ v₀ s₀ next₀ made₀ j v s next made = Going j₀ budget made j v s next
 
 abbrev μ-loop : tie.MeasureT-loop
 μ-loop budget steps table ones keys j₀ v₀ s₀ next₀ made₀ j v s next made = budget - made
@@ -62,36 +62,38 @@ lowest-requires c κs =
     )
 
 loop-holds : tie.Need-loop-holds Inv-loop μ-loop
-loop-holds c = held-turned (begun (tabled (c .before))) (omega arith) (started (c .before)) (c .lowest .ensures)
+loop-holds c =
+    let from = begun (tabled (c .before)) in
+    turned-going from (held-turned from (omega arith) (started (c .before)) (c .lowest .ensures))
 
--- ---- at the loop's head
+-- ---- the row of a turn
 
 abbrev from-head : tie.At-loop Inv-loop μ-loop → tie.After-row-keys Inv-loop μ-loop
 from-head c = tabled (c .before .before)
 
-with-sums-requires : tie.Need-with-sums-requires Inv-loop μ-loop
-with-sums-requires c κs = search needs
-
-returns : tie.Need-returns Inv-loop μ-loop
-returns c =
-    let none = c .before .before .before in
-    let at = none .before .before in
-    turned-found (begun (from-head at)) (at .loop .inv) (none .if1 .taken) (c .with-sums .ensures)
-
--- ---- the row of a turn
-
-abbrev head : tie.Else1 Inv-loop μ-loop → tie.At-loop Inv-loop μ-loop
+abbrev head : tie.Then1 Inv-loop μ-loop → tie.At-loop Inv-loop μ-loop
 head c = c .before .before
 
+-- `next` is a row's code
+coded : (c : tie.Then1 Inv-loop μ-loop) → head c .loop .next < 512
+coded c = ltb-true (head c .loop .next) 512 (c .if1 .taken)
+
+other : (c : tie.Then1 Inv-loop μ-loop) → head c .loop .next ≢ 512
+other c e = omega (arith, coded c)
+
+turned : (c : tie.Then1 Inv-loop μ-loop)
+    → let at = head c in
+    let start = entry (from-head at) .args in
+    Turned (start .job) (start .budget) (at .loop .made) (at .loop .j) (at .loop .v) (at .loop .s) (at .loop .next)
+turned c = head c .loop .inv .turned (omega (arith, coded c))
+
 -- no number of the turn's job wraps
-bounded : (c : tie.Else1 Inv-loop μ-loop)
-    → let at = head c .loop in
-    Bounded (withVectors (at .inv .held .v) (at .inv .held .s) (at .j))
-bounded c = turned-bounded (begun (from-head (head c))) (head c .loop .inv)
+bounded : (c : tie.Then1 Inv-loop μ-loop) → Bounded (withVectors (turned c .held .v) (turned c .held .s) (head c .loop .j))
+bounded c = turned-bounded (begun (from-head (head c))) (turned c)
 
 -- the row is one of the 256
-row-below : (c : tie.Else1 Inv-loop μ-loop) → head c .loop .next / 2 < 256
-row-below c = turned-row (begun (from-head (head c))) (head c .loop .inv) (c .if1 .left)
+row-below : (c : tie.Then1 Inv-loop μ-loop) → head c .loop .next / 2 < 256
+row-below c = turned-row (begun (from-head (head c))) (turned c) (other c)
 
 add-j : tie.Need-add-j Inv-loop μ-loop
 add-j c = omega (arith, bounded c .capped)
@@ -117,30 +119,14 @@ correct-requires : tie.Need-correct-requires Inv-loop μ-loop
 correct-requires c κs =
     let at = c .before .before in
     let from = from-head (head at) in
-    let inv = head at .loop .inv in (
-      turned-code (begun from) inv (at .if1 .left),
-      entry from .pre .1 .3,
-      held-narrow (begun from) (inv .within) (inv .held) .0,
-    )
+    (coded at, entry from .pre .1 .3, held-narrow (begun from) (turned at .within) (turned at .held) .0)
 
 -- the turn's row, from the comparison
-abbrev turn : tie.After-s2 Inv-loop μ-loop → tie.Else1 Inv-loop μ-loop
+abbrev turn : tie.After-s Inv-loop μ-loop → tie.Then1 Inv-loop μ-loop
 turn c = c .before .before .before .before .before
 
 same-sums-requires : tie.Need-same-sums-requires Inv-loop μ-loop
 same-sums-requires c κs = begun (from-head (head (turn c))) .inputs
-
-with-sums-requires-2 : tie.Need-with-sums-requires-2 Inv-loop μ-loop
-with-sums-requires-2 c κs = search needs
-
-returns-2 : tie.Need-returns-2 Inv-loop μ-loop
-returns-2 c =
-    let back = c .before .before .before in
-    let same = back .before in
-    let corrects = same .before .before .before .correct .ensures in
-    let at = turn (same .before) in
-    turned-looped (begun (from-head (head at))) (head at .loop .inv) (at .if1 .left) corrects (same .same-sums .ensures)
-    (at .before .loop-test .taken) (back .if2 .taken) (c .with-sums2 .ensures)
 
 -- ---- what follows it
 
@@ -151,38 +137,34 @@ top-power-requires c κs = search needs
 abbrev compared : tie.Joined3 Inv-loop μ-loop → tie.After-same-sums Inv-loop μ-loop
 compared c = c .before .before .before
 
-abbrev turned : tie.Joined3 Inv-loop μ-loop → tie.Else1 Inv-loop μ-loop
-turned c = turn (compared c .before)
-
 -- there the loop stands at the next step
 held-on : (c : tie.Joined3 Inv-loop μ-loop)
-    → let at = head (turned c) in
+    → let at = head (turn (compared c .before)) in
     let sums = compared c .before .before .before .correct .last .0 in
     Held (entry (from-head at) .args .job) (at .loop .made + 1) (c .if3 .j) sums (c .if3 .s)
 held-on c =
-    let at = turned c in
+    let at = turn (compared c .before) in
     let from = begun (from-head (head at)) in
-    let inv = head at .loop .inv in
-    let other = at .if1 .left in
     let corrects = compared c .before .before .before .correct .ensures in
     let compares = compared c .same-sums .ensures in
     let differs = c .before .before .if2 .left in
     let power = c .before .top-power .ensures in
-    ⊎-elim (λ w. turned-marked from inv other corrects compares differs (eq-eqb _ _ (sym power ∙ w .0 .taken)) (w .2) (w .3))
-    (λ w. turned-other from inv other corrects compares differs (ne-eqb _ _ (λ e. w .0 .left (power ∙ e))) (w .1) (w .2))
+    ⊎-elim (λ w. turned-marked from (turned at) (other at) corrects compares differs (eq-eqb _ _ (sym power ∙ w .0 .taken)) (w .2) (w .3))
+    (λ w. turned-other from (turned at) (other at) corrects compares differs (ne-eqb _ _ (λ e. w .0 .left (power ∙ e))) (w .1) (w .2))
     (c .if3 .came)
 
 lowest-requires-2 : tie.Need-lowest-requires-2 Inv-loop μ-loop
 lowest-requires-2 c κs =
     let on = c .before .before .before in
-    let from = from-head (head (turned on)) in (
+    let at = turn (compared on .before) in
+    let from = from-head (head at) in (
       (begun from .inputs, from .before .before .row-ones .ensures, from .row-keys .ensures),
-      held-narrow (begun from) (omega (arith, turned on .before .loop-test .taken)) (held-on on),
+      held-narrow (begun from) (omega (arith, at .before .loop-test .taken)) (held-on on),
     )
 
 add-made : tie.Need-add-made Inv-loop μ-loop
 add-made c =
-    let at = turned (c .before .before .before .before) in
+    let at = turn (c .before .before) in
     omega (arith, at .before .loop-test .taken, begun (from-head (head at)) .few)
 
 loop-less : tie.Need-loop-less Inv-loop μ-loop
@@ -190,29 +172,31 @@ loop-less c = search needs
 
 loop-again : tie.Need-loop-again Inv-loop μ-loop
 loop-again c =
-    let on = c .before .before .before .before in
-    let at = turned on in
-    held-turned (begun (from-head (head at))) (omega (arith, at .before .loop-test .taken)) (held-on on) (c .lowest2 .ensures)
+    let at = turn (c .before .before) in
+    let from = begun (from-head (head at)) in
+    let more = at .before .loop-test .taken in
+    let corrects = c .before .before .before .before .correct .ensures in
+    ⊎-elim (λ w. turned-closed from (turned at) (other at) corrects (c .before .same-sums .ensures) more (w .0 .taken) (w .1) (w .2) (w .3))
+    (λ w.
+    let on = held-on (record { before = record { before = record { before = c .before; if2 = w .0 }; top-power = w .1 }; if3 = w .2 }) in
+    rw (w .7, w .8, w .9) (turned-going from (held-turned from (omega (arith, more)) on (w .6 .ensures))))
+    (c .if2 .came)
 
 -- ---- after the loop
 
-with-sums-requires-3 : tie.Need-with-sums-requires-3 Inv-loop μ-loop
-with-sums-requires-3 c κs = search needs
+stage-of-requires : tie.Need-stage-of-requires Inv-loop μ-loop
+stage-of-requires c κs = c .before .before .before .loop .inv .known
 
-with-sums-requires-4 : tie.Need-with-sums-requires-4 Inv-loop μ-loop
-with-sums-requires-4 c κs = search needs
+with-sums-requires : tie.Need-with-sums-requires Inv-loop μ-loop
+with-sums-requires c κs = search needs
 
-returns-3 : tie.Need-returns-3 Inv-loop μ-loop
-returns-3 c =
-    let none = c .before .before .before in
-    let at = none .before .before in
-    turned-found (begun (from-head at)) (at .loop .inv) (none .if4 .taken) (c .with-sums3 .ensures)
-
-returns-4 : tie.Need-returns-4 Inv-loop μ-loop
-returns-4 c =
-    let some = c .before .before .before in
-    let at = some .before .before in
-    turned-open (begun (from-head at)) (at .loop .inv) (some .if4 .left) (some .before .loop-test .left) (c .with-sums4 .ensures)
+returns : tie.Need-returns Inv-loop μ-loop
+returns c =
+    let left = c .before .before .before .before in
+    let at = left .before in
+    let all : at .loop .next < 512 → entry (from-head at) .args .budget ≤ at .loop .made =
+    λ h. ⊎-elim (λ w. absurd (omega (arith, ltb-false (at .loop .next) 512 (w .1 .left)))) (λ w. w .left) (left .loop-test .came) in
+    going-ends (begun (from-head at)) (at .loop .inv) (c .before .stage-of .ensures) all (c .with-sums .ensures)
 
 pub chunk-spec : {M : Type 1} → statement M
 chunk-spec =
@@ -227,8 +211,6 @@ chunk-spec =
     sums-of-requires-2
     lowest-requires
     loop-holds
-    with-sums-requires
-    returns
     add-j
     mul-j
     element-copy-out-j
@@ -237,14 +219,11 @@ chunk-spec =
     element-write-j
     correct-requires
     same-sums-requires
-    with-sums-requires-2
-    returns-2
     top-power-requires
     lowest-requires-2
     add-made
     loop-less
     loop-again
-    with-sums-requires-3
-    with-sums-requires-4
-    returns-3
-    returns-4)
+    stage-of-requires
+    with-sums-requires
+    returns)
