@@ -33,43 +33,10 @@ use Rattle.lanes.specs.Codes.{rowCode, foundCode}
 use Rattle.job.specs.Machine.{withStage, run}
 use Rattle.job.specs.Sound.{cap, Ranged, Sound}
 use Rattle.lanes.proofs.SumsLaws.{sums-narrow, sums-first, magnitude-corrected}
+use Rattle.job.proofs.CodeLaws.{code-below, no-row, row-is}
 use Rattle.job.proofs.MachineLaws.{marked-power, marked-other}
 use Rattle.job.proofs.StepSound.{with-stage-same}
 use Rattle.job.proofs.SteppingLaws.{Stands, stands-start, stands-found, stands-row, stands-open, stands-looped, moved, stands-next, Bounded, stands-bounded}
-
--- ---- the code of the row found
-
--- half of a row's code is the row
-half-code : (y : Bool) (r : ℕ) → rowCode y r / 2 ≡ r
-half-code true r = omega arith
-half-code false r = omega arith
-
--- the code of one of 256 rows is below 512
-code-below : (y : Bool) (r : ℕ) → r < 256 → rowCode y r < 512
-code-below true r h = omega arith
-code-below false r h = omega arith
-
-module _ (t : Table) (v : Vector) {next : ℕ} (e : next ≡ foundCode t (failing t v)) where
-  -- 512 is no row's code: no row fails
-  no-row : t .n ≤ 8 → next ≡ 512 → failing t v ≡ none
-  no-row n is = by (failing t v) refl e
-    where
-      by : (o : Option ℕ) → failing t v ≡ o → next ≡ foundCode t o → failing t v ≡ none
-      by none f g = f
-      by (some r) f g =
-          let row : r < 256 = omega (arith, failing-some t v r f .inside, rows-le n) in
-          absurd (omega (arith, code-below (value t r) r row))
-
-  -- any other number is the code of the lowest failing row, which is its half
-  row-is : next ≢ 512 → (failing t v ≡ some (next / 2)) × (next ≡ rowCode (value t (next / 2)) (next / 2))
-  row-is other = by (failing t v) refl e
-    where
-      by : (o : Option ℕ) → failing t v ≡ o → next ≡ foundCode t o
-          → (failing t v ≡ some (next / 2)) × (next ≡ rowCode (value t (next / 2)) (next / 2))
-      by none f g = absurd (other g)
-      by (some r) f g =
-          let half : r ≡ next / 2 = sym (ap (λ (x : ℕ). x / 2) g ∙ half-code (value t r) r) in
-          (f ∙ ap some half, g ∙ ap (λ (x : ℕ). rowCode (value t x) x) half)
 
 -- ---- where the loop stands
 

@@ -7,6 +7,7 @@ pub mod FreshSound
 pub mod Soundness
 pub mod SoundTest
 pub mod SteppingLaws
+pub mod CodeLaws
 pub mod ChunkLaws
 pub mod StartedLaws
 pub mod JobChecked

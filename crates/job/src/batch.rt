@@ -1,7 +1,7 @@
 // A table decided by a table of steps that was made before, once for many tables. For `reporting`, which has many: internal.
 use crate::job::Job;
 use crate::job::Started;
-use crate::job::is_ended;
+use crate::stepping::is_ended;
 use crate::stepping::steps;
 use cell::refusal::Status;
 use table::table::Table;

@@ -1,6 +1,7 @@
 // A job: the state of the stepping machine on one table, made fresh and carried on.
 use crate::batch::decided_by;
 use crate::sound::is_sound;
+use crate::stepping::is_ended;
 use crate::stepping::steps;
 use cell::refusal::Status;
 use cell::refusal::table_status;
@@ -11,8 +12,6 @@ use machine::vector::Vector;
 use table::inputs::Found;
 use table::table::Table;
 ghost use mathlib.Core.Path.{_≡_};
-ghost use mathlib.Core.Logic.{_≢_};
-ghost use mathlib.Core.Bool.{true, false};
 ghost use Rattle.cell.specs.Answers.{status};
 ghost use Rattle.cell.specs.Refusal.{refused};
 ghost use Rattle.job.specs.Machine.{startJob};
@@ -63,18 +62,6 @@ fn start_job(table: Table, counts: [u32; 256], stage: Stage) -> Job
         s: zero,
         counts,
         stage,
-    }
-}
-
-// Whether the stage is an end.
-pub fn is_ended(stage: Stage) -> bool
-    ensures { λ r. ⌜ (r ≡ true → stage ≢ Stage.Open) × (r ≡ false → stage ≡ Stage.Open) ⌝ }
-{
-    match stage {
-        Stage::Open => false,
-        Stage::Found => true,
-        Stage::Looped => true,
-        Stage::Binate => true,
     }
 }
 

@@ -1,5 +1,6 @@
 // Jobs of the stepping machine: made fresh, carried on by corrections until a gate or a witness is found, and shown. The functions of the
-// private modules ask for a job that keeps its ranges; the calls of `job` and `view` take anything.
+// private modules ask for a job that keeps its ranges, and `batch`, which is for `reporting`, for the table of steps; the calls of `job` and `view`
+// take anything.
 pub mod batch;
 mod chunk;
 pub mod job;

@@ -3,7 +3,6 @@ use crate::chunk::CHUNK;
 use crate::chunk::chunk;
 use crate::job::Job;
 use crate::job::Stage;
-use crate::job::is_ended;
 use lanes::size::is_small;
 use machine::power::top_power;
 use machine::scan::first_failing;
@@ -12,11 +11,25 @@ use machine::vector::corrected_by;
 use machine::vector::same_vector;
 use table::inputs::Found;
 ghost use mathlib.Core.Path.{_≡_};
+ghost use mathlib.Core.Logic.{_≢_};
+ghost use mathlib.Core.Bool.{true, false};
 ghost use Prim.Native.Nat.{_+_, _≤_};
 ghost use Rattle.machine.specs.Scan.{Holds};
 ghost use Rattle.lanes.specs.Codes.{stepAt};
 ghost use Rattle.job.specs.Machine.{withStage, run};
 ghost use Rattle.job.specs.Sound.{cap, Sound};
+
+// Whether the stage is an end.
+pub fn is_ended(stage: Stage) -> bool
+    ensures { λ r. ⌜ (r ≡ true → stage ≢ Stage.Open) × (r ≡ false → stage ≡ Stage.Open) ⌝ }
+{
+    match stage {
+        Stage::Open => false,
+        Stage::Found => true,
+        Stage::Looped => true,
+        Stage::Binate => true,
+    }
+}
 
 // Returns the job in another stage.
 pub fn with_stage(job: Job, stage: Stage) -> Job

@@ -1,10 +1,10 @@
--- `job::job::is_ended` meets its contract: the other stages are not `Open`. Assumes nothing.
+-- `job::stepping::is_ended` meets its contract: the other stages are not `Open`. Assumes nothing.
 use mathlib.Core.Path.{sym, _∙_}
 use borrow.Author.Needs.{needs}
 use Rattle.numbers.proofs.TestLaws.{no-true}
 use Rattle.job.proofs.MachineLaws.{found-ended, looped-ended, binate-ended}
-use Rattle.job.proofs.job.is_ended.Statement.{statement}
-use Rattle.job.proofs.job.is_ended.Tie as tie
+use Rattle.job.proofs.stepping.is_ended.Statement.{statement}
+use Rattle.job.proofs.stepping.is_ended.Tie as tie
 
 enum-told : tie.Need-enum-told
 enum-told c = search needs
