@@ -6,23 +6,27 @@ use mathlib.Core.Logic.{_≢_}
 use mathlib.Core.Bool.{Bool, true, false}
 use mathlib.Core.List.{List}
 use mathlib.Core.Option.{Option, some, none}
-use Prim.Native.Nat.{ℕ, _+_, _*_, _/_, _≤_, _<_}
+use Prim.Native.Nat.{ℕ, _+_, _*_, _-_, _/_, _≤_, _<_}
 use native.Mathlib.Decide.{decLe}
 use native.Mathlib.Omega.{arith}
 use lib.Dec.{eqb}
-use lib.ListN.{length, getD}
+use lib.ListN.{length, getD, drop, List·getD-append}
+use lib.Seq.{ext-getD}
 use lib.IntN.{ℤ, pos}
+use Rattle.numbers.proofs.TabulateLaws.{filled, getD-unfilled, length-tabulate, getD-tabulate, length-filled}
+use Rattle.numbers.specs.Tabulate.{tabulate}
 use Rattle.table.specs.declared.table.Table.{Table}
-use Rattle.table.specs.Table.{value}
+use Rattle.table.specs.Table.{rows, value}
 use Rattle.table.specs.Gate.{inRange}
 use Rattle.table.specs.Inputs.{found}
 use Rattle.table.proofs.TableLaws.{rows-le}
 use Rattle.machine.specs.declared.vector.Vector.{Vector}
 use Rattle.machine.specs.Failing.{failing}
 use Rattle.machine.specs.Vector.{correctedBy, sameVector}
-use Rattle.machine.specs.Binate.{zeros}
+use Rattle.machine.specs.Binate.{zeros, oneMore}
 use Rattle.machine.specs.Power.{highest}
-use Rattle.machine.proofs.VectorLaws.{length-corrected}
+use Rattle.machine.proofs.VectorLaws.{length-corrected, length-one-more, one-more-other}
+use Rattle.machine.proofs.BinateLaws.{getD-zeros}
 use Rattle.machine.proofs.FailingLaws.{failing-some}
 use Rattle.machine.proofs.RangeLaws.{in-range-correct, in-range-wider, corrected-in-range}
 use Rattle.job.specs.declared.job.Job.{Job}
@@ -43,6 +47,10 @@ use Rattle.job.proofs.SteppingLaws.{Stands, stands-start, stands-found,
 -- the loop's job with the vectors v and s
 abbrev pub withVectors : Vector → Vector → Job → Job
 withVectors v s j = record { table = j .table; k = j .k; v = v; mark = j .mark; s = s; counts = j .counts; stage = j .stage }
+
+-- what `clear` stores
+abbrev uncounted : ℕ → ℕ
+uncounted r = 0
 
 -- the loop's job at its mark
 abbrev pub marking : Job → Job
@@ -69,7 +77,7 @@ held-start {j} sound e small current copied = record {
   small = omega arith;
 }
 
--- what the contracts of the code say of any vectors that have the sums: of `lowest`, `correct`, `same_sums` and `with_sums`
+-- what the contracts of the code say of any vectors that have the sums: of `lowest`, `correct` and `same_sums`; and a job with such vectors
 abbrev pub Searches : Table → List ℤ → ℕ → Type 0
 Searches t sums next =
     (k : ℕ) (v : Vector) → length (v .a) ≡ 8 → inRange k (t .n) (v .a) (v .b) ≡ true → sums ≡ vectorSums v
@@ -89,6 +97,14 @@ Compares t sums copy same =
 abbrev pub Restores : Job → List ℤ → List ℤ → Stage → Job → Type 0
 Restores j sums copy x r =
     (v s : Vector) → length (v .a) ≡ 8 → length (s .a) ≡ 8 → sums ≡ vectorSums v → copy ≡ vectorSums s → r ≡ withStage x (withVectors v s j)
+
+-- the vectors that `vector_of` makes of the sums restore the job
+pub restores : (j : Job) {sums copy : List ℤ} (x : Stage) (a b : Vector)
+    → ((v : Vector) → length (v .a) ≡ 8 → sums ≡ vectorSums v → a ≡ v)
+    → ((s : Vector) → length (s .a) ≡ 8 → copy ≡ vectorSums s → b ≡ s) → Restores j sums copy x (withStage x (withVectors a b j))
+restores j x a b current copied v s v-weights s-weights v-sums s-sums =
+    ap (λ (u : Vector). withStage x (withVectors u b j)) (current v v-weights v-sums)
+    ∙ ap (λ (u : Vector). withStage x (withVectors v u j)) (copied s s-weights s-sums)
 
 -- ---- a turn of the loop
 
@@ -198,6 +214,37 @@ module _ {start : Job} {budget : ℕ} (b : Begun start budget) where
 
       pub turned-code : next < 512
       turned-code = omega (arith, coded, code-below sign row turned-row)
+
+      -- where `clear` has set the counts of the table's rows to 0, all are 0
+      pub turned-cleared : {counts : List ℕ} → counts ≡ filled uncounted (oneMore row (j .counts)) (rows (start .table)) → counts ≡ zeros
+      turned-cleared e =
+          e ∙ ext-getD 0 (filled uncounted old most) zeros (length-filled uncounted old most (omega (arith, shaped, few)) ∙ shaped) (λ i h. at i (decLe most i))
+        where
+          old : List ℕ
+          old = oneMore row (j .counts)
+
+          most : ℕ
+          most = rows (start .table)
+
+          few : most ≤ 256
+          few = rows-le (b .inputs)
+
+          shaped : length old ≡ 256
+          shaped = length-one-more row (j .counts) ∙ turned-bounded .shaped .counts
+
+          at : (i : ℕ) → Dec (most ≤ i) → getD (filled uncounted old most) i 0 ≡ getD zeros i 0
+          at i (yes past) =
+              let there : most + (i - most) ≡ i = omega arith in
+              ap (λ (x : ℕ). getD (filled uncounted old most) x 0) (sym there)
+              ∙ getD-unfilled uncounted old most (i - most) 0
+              ∙ ap (λ (x : ℕ). getD old x 0) there
+              ∙ one-more-other row i (j .counts) (λ e. omega (arith, stands-row stands row-found))
+              ∙ turned-bounded .past i (subst (λ (t : Table). rows t ≤ i) (sym (stands .table)) past)
+              ∙ sym (getD-zeros i)
+          at i (no inside) =
+              List·getD-append (tabulate most uncounted) (drop most old) 0 i (omega (arith, length-tabulate uncounted most))
+              ∙ getD-tabulate uncounted most i 0 (omega arith)
+              ∙ sym (getD-zeros i)
 
       -- the job is then the machine's
       pub turned-open : {r : Job} → budget ≤ m → Restores j sums copy Stage′.Open r → r ≡ run budget start

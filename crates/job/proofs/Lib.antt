@@ -9,6 +9,5 @@ pub mod SoundTest
 pub mod SteppingLaws
 pub mod CodeLaws
 pub mod ChunkLaws
-pub mod StartedLaws
 pub mod JobChecked
 pub mod DecidedLaws

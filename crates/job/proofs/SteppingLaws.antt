@@ -27,7 +27,7 @@ use Rattle.job.specs.declared.job.Stage.the-variants as Stage′
 use Rattle.job.specs.Machine.{withStage, markIf, marked, settled, closed, step, run}
 use Rattle.job.specs.Sound.{cap, Shaped, Ranged, Sound}
 use Rattle.job.proofs.MachineLaws.{corrected-is, closed-looped, closed-on, settled-found, settled-open, found-ended, looped-ended, binate-ended, step-open, run-zero, run-suc, run-add, run-ended, run-table}
-use Rattle.job.proofs.SoundBounds.{sound-in, sound-count}
+use Rattle.job.proofs.SoundBounds.{sound-in, sound-count, sound-past}
 use Rattle.job.proofs.SoundTest.{in-range-search}
 use Rattle.job.proofs.Soundness.{run-sound-from, run-growth}
 
@@ -132,6 +132,7 @@ pub record Bounded (j : Job) : Type 0 where
   pub copied : Ranged (j .k) (j .table .n) (j .s)
   pub ranged : inRange weightLimit 8 (j .v .a) (j .v .b) ≡ true
   pub count : (r : ℕ) → getD (j .counts) r 0 ≤ cap
+  pub past : (r : ℕ) → rows (j .table) ≤ r → getD (j .counts) r 0 ≡ 0
 
 sound-bounded : (x : Stage) (j : Job) → x ≢ Stage′.Binate → Sound (withStage x j) → Bounded j
 sound-bounded x j n s = record {
@@ -141,6 +142,7 @@ sound-bounded x j n s = record {
   copied = s .copied;
   ranged = in-range-search (j .k) (j .table .n) (j .v .a) (j .v .b) (s .capped) (s .current);
   count = λ r. omega (arith, sound-count (withStage x j) s n r, s .capped);
+  past = λ r h. sound-past (withStage x j) s r h;
 }
 
 -- the loop's job has those bounds, since the machine's is sound
@@ -156,34 +158,39 @@ stands-bounded {start} {m} {j} n sound l s = by (failing (j .table) (j .v)) refl
 
 -- ---- the steps in parts
 
--- what is left to make from j on comes to the budget's steps from `start`
+-- j is the job after the budget's steps but for those that are left
 pub record Left (start : Job) (budget : ℕ) (j : Job) (left : ℕ) : Type 0 where
-  pub inputs : j .table .n ≤ 8
-  pub sound : Sound j
-  pub stage : j .stage ≡ Stage′.Open
-  pub capped : j .k + left ≤ cap
-  pub machine : run left j ≡ run budget start
+  pub within : left ≤ budget
+  pub machine : j ≡ run (budget - left) start
+
+-- before the first step all are left
+pub left-start : (j : Job) (budget : ℕ) → Left j budget j budget
+left-start j budget = record { within = omega arith; machine = sym (run-zero j) ∙ ap (λ (m : ℕ). run m j) (omega arith) }
 
 module _ {start : Job} {budget : ℕ} {j : Job} {left : ℕ} (l : Left start budget j left) where
-  -- with nothing left the job is the machine's
-  pub left-none : left ≤ 0 → j ≡ run budget start
-  left-none h = let none : 0 ≡ left = omega arith in sym (run-zero j) ∙ ap (λ (m : ℕ). run m j) none ∙ l .machine
+  -- with nothing left, or at its end, it is the machine's after all of them
+  pub left-none : left ≡ 0 → j ≡ run budget start
+  left-none gone = l .machine ∙ ap (λ (m : ℕ). run m start) (omega arith)
+
+  pub left-ended : j .stage ≢ Stage′.Open → j ≡ run budget start
+  left-ended n = run-stays start j (budget - left) budget (omega arith) (l .machine) n
 
   -- r is the job after a part of what is left
-  module _ {r : Job} {part : ℕ} (h : part ≤ left) (e : r ≡ run part j) where
-    -- ended, it is the machine's
-    pub left-ended : r .stage ≢ Stage′.Open → r ≡ run budget start
-    left-ended n = run-stays j r part left h e n ∙ l .machine
+  pub left-next : {r : Job} {part : ℕ} → part ≤ left → r ≡ run part j → Left start budget r (left - part)
+  left-next {part = part} h made =
+      let sum : budget - left + part ≡ budget - (left - part) = omega (arith, l .within) in
+      record {
+        within = omega (arith, l .within);
+        machine = made ∙ ap (run part) (l .machine) ∙ sym (run-add (budget - left) part start) ∙ ap (λ (m : ℕ). run m start) sum;
+      }
 
-    -- open, the rest is left
-    pub left-next : r .stage ≡ Stage′.Open → Left start budget r (left - part)
-    left-next still =
-        let rest : part + (left - part) ≡ left = omega arith in
-        let few : j .k + part ≤ cap = omega (arith, l .capped) in
-        record {
-          inputs = rw (e, run-table part j) (l .inputs);
-          sound = subst Sound (sym e) (run-sound-from j (l .inputs) (l .sound) part few);
-          stage = still;
-          capped = omega (arith, l .capped, run-growth j part, ap (λ (i : Job). i .k) e);
-          machine = ap (run (left - part)) e ∙ sym (run-add part (left - part) j) ∙ ap (λ (m : ℕ). run m j) rest ∙ l .machine;
-        }
+  -- it has the bounds of the machine's job
+  module _ (inputs : start .table .n ≤ 8) (sound : Sound start) (capped : start .k + budget ≤ cap) where
+    pub left-inputs : j .table .n ≤ 8
+    left-inputs = rw (l .machine, run-table (budget - left) start) inputs
+
+    pub left-sound : Sound j
+    left-sound = subst Sound (sym (l .machine)) (run-sound-from start inputs sound (budget - left) (omega (arith, capped)))
+
+    pub left-capped : j .k + left ≤ cap
+    left-capped = omega (arith, capped, l .within, run-growth start (budget - left), ap (λ (i : Job). i .k) (l .machine))

@@ -1,3 +1,4 @@
 pub mod Machine
+pub mod Core
 pub mod Sound
 pub mod Calls

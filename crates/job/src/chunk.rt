@@ -1,42 +1,41 @@
 // A chunk of steps in the fast form: the vectors are sums in places of 16 bits, and become vectors again at its end.
-use crate::job::Job;
+use crate::core::Core;
 use crate::job::Stage;
 use lanes::correction::correct;
 use lanes::keys::lane_values;
-use lanes::keys::row_keys;
-use lanes::keys::row_ones;
+use lanes::keys::store_keys;
+use lanes::keys::store_ones;
 use lanes::search::lowest;
 use lanes::sums::same_sums;
 use lanes::sums::sums_of;
 use lanes::sums::vector_of;
 use machine::power::top_power;
+use table::table::Table;
+use table::table::row_count;
 ghost use mathlib.Core.Path.{_≡_};
+ghost use mathlib.Core.List.{_++_};
 ghost use Prim.Native.Nat.{_+_, _≤_, _<_};
-ghost use lib.ListN.{length};
-ghost use Rattle.machine.specs.declared.vector.Vector.{Vector};
+ghost use lib.ListN.{length, drop};
+ghost use Rattle.numbers.specs.Tabulate.{tabulate};
 ghost use Rattle.machine.specs.Scan.{Holds};
-ghost use Rattle.lanes.specs.Sums.{magnitude, vectorSums};
+ghost use Rattle.lanes.specs.Sums.{magnitude};
 ghost use Rattle.lanes.specs.Codes.{stepAt};
 ghost use Rattle.job.specs.Machine.{run};
+ghost use Rattle.job.specs.Core.{jobOf};
 ghost use Rattle.job.specs.Sound.{cap, Sound};
 
 // The most steps of a chunk.
 pub const CHUNK: u32 = 2000;
 
-// Returns the job with the vectors of the sums, in a stage.
-fn with_sums(job: Job, v: &[i16; 40], s: &[i16; 40], stage: Stage) -> Job
-    ensures { λ r. ⌜ ((a b : Vector) → length (a .a) ≡ 8 → length (b .a) ≡ 8 → now (v .entry) ≡ vectorSums a → now (s .entry) ≡ vectorSums b → r ≡ record { table = job .table; k = job .k; v = a; mark = job .mark; s = b; counts = job .counts; stage = stage }) ⌝ }
+// Sets the counts of so many rows to 0.
+fn clear(counts: &mut [u32; 256], rows: usize)
+    requires { ⌜ (length (now counts) ≡ 256) × (rows ≤ 256) ⌝ }
+    ensures { λ _. ⌜ now (counts .exit) ≡ tabulate rows (λ row. 0) ++ drop rows (now (counts .entry)) ⌝ }
 {
-    let table = job.table;
-    let counts = job.counts;
-    Job {
-        table,
-        k: job.k,
-        v: vector_of(v),
-        mark: job.mark,
-        s: vector_of(s),
-        counts,
-        stage,
+    let mut row: usize = 0;
+    while row < rows {
+        counts[row] = 0;
+        row = row + 1;
     }
 }
 
@@ -54,18 +53,27 @@ fn stage_of(next: usize) -> Stage
     Stage::Looped
 }
 
-// Returns the job after at most 2,000 steps, or at its end. The numbers of v and s are small enough for places of 16 bits. `steps` is the
-// table of steps.
-pub fn chunk(job: Job, budget: u32, steps: &[i16; 2048]) -> Job
-    requires { ⌜ (job .table .n ≤ 8) × Sound job × (job .stage ≡ Stage.Open) × (job .k + budget ≤ cap) ⌝ }
-    requires { ⌜ (budget ≤ 2000) × (magnitude (job .v) ≤ 14000) × (magnitude (job .s) ≤ 14000) × Holds stepAt 2048 (now steps) ⌝ }
-    ensures { λ r. ⌜ r ≡ run budget job ⌝ }
+// Carries a job on by at most 2,000 steps, or to its end; its table, core and counts are apart, so that the counts stay where they are. The
+// numbers of v and s are small enough for places of 16 bits. `steps` is the table of steps. A mark clears the counts of the table's rows:
+// the others are 0.
+pub fn chunk(
+    table: Table,
+    core: Core,
+    counts: &mut [u32; 256],
+    budget: u32,
+    steps: &[i16; 2048],
+) -> Core
+    requires { ⌜ (table .n ≤ 8) × Sound (jobOf table core (now counts)) × (core .stage ≡ Stage.Open) × (core .k + budget ≤ cap) ⌝ }
+    requires { ⌜ (budget ≤ 2000) × (magnitude (core .v) ≤ 14000) × (magnitude (core .s) ≤ 14000) × Holds stepAt 2048 (now steps) ⌝ }
+    ensures { λ r. ⌜ jobOf table r (now (counts .exit)) ≡ run budget (jobOf table core (now (counts .entry))) ⌝ }
 {
-    let table = job.table;
+    let rows = row_count(table.n);
     let values = lane_values(table);
-    let ones = row_ones(table, &values);
-    let keys = row_keys(table, &values);
-    let mut j = job;
+    let mut ones = [0i16; 256];
+    store_ones(&mut ones, table, &values);
+    let mut keys = [0i16; 256];
+    store_keys(&mut keys, table, &values);
+    let mut j = core;
     let mut v = sums_of(j.v);
     let mut s = sums_of(j.s);
     let mut next = lowest(&v, &ones, &keys, table);
@@ -73,7 +81,7 @@ pub fn chunk(job: Job, budget: u32, steps: &[i16; 2048]) -> Job
     while made < budget && next < 512 {
         let row = next / 2;
         j.k = j.k + 1;
-        j.counts[row] = j.counts[row] + 1;
+        counts[row] = counts[row] + 1;
         correct(&mut v, steps, next);
         if same_sums(&v, &s, table.n) {
             next = 513;
@@ -81,11 +89,17 @@ pub fn chunk(job: Job, budget: u32, steps: &[i16; 2048]) -> Job
             if top_power(j.k) == j.k {
                 j.mark = j.k;
                 s = v;
-                j.counts = [0u32; 256];
+                clear(counts, rows);
             }
             next = lowest(&v, &ones, &keys, table);
         }
         made = made + 1;
     }
-    with_sums(j, &v, &s, stage_of(next))
+    Core {
+        k: j.k,
+        v: vector_of(&v),
+        mark: j.mark,
+        s: vector_of(&s),
+        stage: stage_of(next),
+    }
 }

@@ -1,20 +1,18 @@
 // A job: the state of the stepping machine on one table, made fresh and carried on.
 use crate::batch::decided_by;
 use crate::sound::is_sound;
+use crate::start::fresh_job;
+use crate::start::start_job;
 use crate::stepping::is_ended;
 use crate::stepping::steps;
 use cell::refusal::Status;
 use cell::refusal::table_status;
 use lanes::steps::step_table;
-use machine::binate::binate_counts;
-use machine::binate::binate_place;
 use machine::vector::Vector;
-use table::inputs::Found;
 use table::table::Table;
 ghost use mathlib.Core.Path.{_≡_};
 ghost use Rattle.cell.specs.Answers.{status};
 ghost use Rattle.cell.specs.Refusal.{refused};
-ghost use Rattle.job.specs.Machine.{startJob};
 ghost use Rattle.job.specs.Calls.{jobChecked, freshJob, started, decidedJob, carryOn, carried};
 
 // Where the machine stands: still open, or ended with a gate, with a cycle that is a witness, or at once with a binate input.
@@ -49,19 +47,13 @@ pub struct Carried {
     pub made: u32,
 }
 
-// Returns the job of a table with all numbers 0 but the counts.
-fn start_job(table: Table, counts: [u32; 256], stage: Stage) -> Job
-    ensures { λ r. ⌜ r ≡ startJob table counts stage ⌝ }
+// Returns the answer for a table that is refused: the job with all numbers 0.
+fn not_started(table: Table, number: u8) -> Started
+    ensures { λ r. ⌜ r ≡ started table (refused number) ⌝ }
 {
-    let zero = Vector { a: [0i32; 8], b: 0 };
-    Job {
-        table,
-        k: 0,
-        v: zero,
-        mark: 0,
-        s: zero,
-        counts,
-        stage,
+    Started {
+        status: Status::Refused(number),
+        job: start_job(table, [0u32; 256], Stage::Open),
     }
 }
 
@@ -93,20 +85,11 @@ impl Job {
     {
         let status = table_status(table);
         if let Status::Refused(number) = status {
-            return Started {
-                status: Status::Refused(number),
-                job: start_job(table, [0u32; 256], Stage::Open),
-            };
+            return not_started(table, number);
         }
-        let Found::Row(place) = binate_place(table) else {
-            return Started {
-                status: Status::Done,
-                job: start_job(table, [0u32; 256], Stage::Open),
-            };
-        };
         Started {
             status: Status::Done,
-            job: start_job(table, binate_counts(table, place), Stage::Binate),
+            job: fresh_job(table),
         }
     }
 
@@ -114,8 +97,15 @@ impl Job {
     pub fn decided(table: Table) -> Started
         ensures { λ r. ⌜ r ≡ started table (decidedJob table) ⌝ }
     {
+        let status = table_status(table);
+        if let Status::Refused(number) = status {
+            return not_started(table, number);
+        }
         let steps = step_table();
-        decided_by(table, &steps)
+        Started {
+            status: Status::Done,
+            job: decided_by(table, &steps),
+        }
     }
 
     // Carries the job on by a budget of corrections, or to its end. Refusals: 2, 3, 9, 10, 11; the job is then as it came in. An

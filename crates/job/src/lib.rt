@@ -3,8 +3,10 @@
 // take anything.
 pub mod batch;
 mod chunk;
+mod core;
 pub mod job;
 mod sound;
+mod start;
 mod stepping;
 mod trace;
 pub mod view;

@@ -1,6 +1,9 @@
 // The machine's steps, one after another.
 use crate::chunk::CHUNK;
 use crate::chunk::chunk;
+use crate::core::Core;
+use crate::core::core_of;
+use crate::core::job_of;
 use crate::job::Job;
 use crate::job::Stage;
 use lanes::size::is_small;
@@ -13,8 +16,10 @@ use table::inputs::Found;
 ghost use mathlib.Core.Path.{_≡_};
 ghost use mathlib.Core.Logic.{_≢_};
 ghost use mathlib.Core.Bool.{true, false};
-ghost use Prim.Native.Nat.{_+_, _≤_};
+ghost use Prim.Native.Nat.{_+_, _-_, _≤_, _<_};
 ghost use Rattle.machine.specs.Scan.{Holds};
+ghost use Rattle.table.specs.Gate.{weightLimit, inRange};
+ghost use Rattle.lanes.specs.Sums.{magnitude};
 ghost use Rattle.lanes.specs.Codes.{stepAt};
 ghost use Rattle.job.specs.Machine.{withStage, run};
 ghost use Rattle.job.specs.Sound.{cap, Sound};
@@ -32,7 +37,7 @@ pub fn is_ended(stage: Stage) -> bool
 }
 
 // Returns the job in another stage.
-pub fn with_stage(job: Job, stage: Stage) -> Job
+fn with_stage(job: Job, stage: Stage) -> Job
     ensures { λ r. ⌜ r ≡ withStage stage job ⌝ }
 {
     let table = job.table;
@@ -87,33 +92,63 @@ fn plain_steps(job: Job, budget: u32) -> Job
     }
 }
 
-// Returns the job after at most a chunk of steps, or at its end: in the fast form where the numbers of v and s are small.
-fn part_steps(job: Job, budget: u32, table: &[i16; 2048]) -> Job
-    requires { ⌜ (job .table .n ≤ 8) × Sound job × (job .stage ≡ Stage.Open) × (job .k + budget ≤ cap) × (budget ≤ 2000) × Holds stepAt 2048 (now table) ⌝ }
-    ensures { λ r. ⌜ r ≡ run budget job ⌝ }
+// A job on its way, and how many of its steps are left to make.
+struct Way {
+    job: Job,
+    left: u32,
+}
+
+// Whether steps are left to make, and the fast form can make them: the job is open, and the numbers of v and s are small.
+fn is_fast(core: Core, left: u32) -> bool
+    requires { ⌜ (inRange weightLimit 8 (core .v .a) (core .v .b) ≡ true) × (inRange weightLimit 8 (core .s .a) (core .s .b) ≡ true) ⌝ }
+    ensures { λ r. ⌜ (r ≡ true → (0 < left) × (core .stage ≡ Stage.Open) × (magnitude (core .v) ≤ 14000) × (magnitude (core .s) ≤ 14000)) ⌝ }
 {
-    if is_small(job.v) && is_small(job.s) {
-        chunk(job, budget, table)
-    } else {
-        plain_steps(job, budget)
+    if left == 0 {
+        return false;
+    }
+    let stage = core.stage;
+    if is_ended(stage) {
+        return false;
+    }
+    if !is_small(core.v) {
+        return false;
+    }
+    is_small(core.s)
+}
+
+// Carries the job on by so many steps, or to its end, chunk by chunk, as far as the fast form can make them. `steps` is the table of steps.
+fn fast_steps(job: Job, budget: u32, steps: &[i16; 2048]) -> Way
+    requires { ⌜ (job .table .n ≤ 8) × Sound job × (job .k + budget ≤ cap) × Holds stepAt 2048 (now steps) ⌝ }
+    ensures { λ r. ⌜ (r .left ≤ budget) × (r .job ≡ run (budget - r .left) job) ⌝ }
+{
+    let table = job.table;
+    let mut counts = job.counts;
+    let mut core = core_of(job);
+    let mut left = budget;
+    while is_fast(core, left) {
+        let part = if left < CHUNK { left } else { CHUNK };
+        core = chunk(table, core, &mut counts, part, steps);
+        left = left - part;
+    }
+    Way {
+        job: job_of(table, core, counts),
+        left,
     }
 }
 
-// Returns the job after so many steps, or at its end, chunk by chunk. `table` is the table of steps.
+// Returns the job after so many steps, or at its end. `table` is the table of steps.
 pub fn steps(job: Job, budget: u32, table: &[i16; 2048]) -> Job
-    requires { ⌜ (job .table .n ≤ 8) × Sound job × (job .stage ≡ Stage.Open) × (job .k + budget ≤ cap) × Holds stepAt 2048 (now table) ⌝ }
+    requires { ⌜ (job .table .n ≤ 8) × Sound job × (job .k + budget ≤ cap) × Holds stepAt 2048 (now table) ⌝ }
     ensures { λ r. ⌜ r ≡ run budget job ⌝ }
 {
-    let mut j = job;
-    let mut left = budget;
-    while 0 < left {
-        let part = if left < CHUNK { left } else { CHUNK };
-        j = part_steps(j, part, table);
-        let stage = j.stage;
-        if is_ended(stage) {
-            return j;
-        }
-        left = left - part;
+    let way = fast_steps(job, budget, table);
+    let next = way.job;
+    if way.left == 0 {
+        return next;
     }
-    j
+    let stage = next.stage;
+    if is_ended(stage) {
+        return next;
+    }
+    plain_steps(next, way.left)
 }

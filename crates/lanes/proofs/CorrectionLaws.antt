@@ -14,7 +14,7 @@ use Rattle.numbers.proofs.Int.{integers, parts-add, parts-sub, natAbs-parts, si
 use Rattle.numbers.proofs.Ring.{ring}
 use Rattle.numbers.proofs.SumLaws.{sum-below-zero, sum-below-suc, weighted-sum-nil, weighted-sum-cons}
 use Rattle.numbers.specs.Tabulate.{tabulate}
-use Rattle.numbers.proofs.TabulateLaws.{length-tabulate, getD-tabulate, tabulate-ext}
+use Rattle.numbers.proofs.TabulateLaws.{length-tabulate, getD-tabulate, tabulate-ext, getD-unfilled}
 use Rattle.table.specs.Table.{level}
 use Rattle.table.specs.Gate.{distance}
 use Rattle.machine.specs.declared.vector.Vector.{Vector}
@@ -24,7 +24,7 @@ use Rattle.machine.specs.Scan.{Holds}
 use Rattle.lanes.specs.Sums.{placeSum, vectorSums}
 use Rattle.lanes.specs.Codes.{rowCode, shared, stepAt}
 use Rattle.lanes.proofs.SharedLaws.{both, both-low, both-high, shared-most}
-use Rattle.lanes.proofs.Entries.{getD-unfilled, tabulate-add}
+use Rattle.lanes.proofs.Entries.{tabulate-add}
 
 -- ---- a correction of the weights
 
@@ -208,7 +208,7 @@ module _ (y : Bool) (r code : ℕ) (v : Vector) (steps : List ℤ) (eight : leng
     module _ (half : List ℤ) (e : half ≡ tabulate 32 low ++ drop 32 (vectorSums v)) where
       -- once the low places are corrected, the higher ones are as they came
       kept : (h : ℕ) → getD half (32 + h) (pos 0) ≡ getD (vectorSums v) (32 + h) (pos 0)
-      kept h = ap (λ (l : List ℤ). getD l (32 + h) (pos 0)) e ∙ getD-unfilled low (vectorSums v) 32 h
+      kept h = ap (λ (l : List ℤ). getD l (32 + h) (pos 0)) e ∙ getD-unfilled low (vectorSums v) 32 h (pos 0)
 
       -- and the steps that are added to these complete the correction
       pub corrected-sums : take 32 half ++ tabulate 8 (λ h. getD half (32 + h) (pos 0) +ℤ high-step h -ℤ sign y)

@@ -6,12 +6,11 @@ use mathlib.Core.List.{List, [], _∷_, _++_, append-nil, append-assoc}
 use Prim.Native.Nat.{ℕ, zero, suc, _+_, _<_}
 use native.Mathlib.Nat.{add-zero, zero-add, add-suc, suc-add}
 use native.Mathlib.Omega.{arith}
-use lib.ListN.{length, getD, drop}
-use lib.Seq.{getD-append-add, getD-drop}
+use lib.ListN.{length, getD}
 use lib.IntN.{ℤ, pos}
 use Rattle.numbers.proofs.TestLaws.{and-left, and-right}
 use Rattle.numbers.specs.Tabulate.{tabulate}
-use Rattle.numbers.proofs.TabulateLaws.{filled, length-tabulate}
+use Rattle.numbers.proofs.TabulateLaws.{filled, getD-unfilled}
 use Rattle.machine.specs.Vector.{sameZ}
 use Rattle.machine.specs.Scan.{Holds}
 use Rattle.machine.proofs.VectorLaws.{same-z-correct}
@@ -32,16 +31,9 @@ from f (x ∷ xs) i e (suc k) h =
 pub holds-agree : (f : ℕ → ℤ) (xs : List ℤ) → agrees f 0 xs ≡ true → Holds f (length xs) xs
 holds-agree f xs e k h = from f xs 0 e k h ∙ ap f (zero-add k)
 
--- where an array is not filled yet, it has the old entries
-pub getD-unfilled : (f : ℕ → ℤ) (old : List ℤ) (m i : ℕ) → getD (filled f old m) (m + i) (pos 0) ≡ getD old (m + i) (pos 0)
-getD-unfilled f old m i =
-    ap (λ (n : ℕ). getD (filled f old m) (n + i) (pos 0)) (sym (length-tabulate f m))
-    ∙ getD-append-add (tabulate m f) (drop m old) i (pos 0)
-    ∙ getD-drop m old i (pos 0)
-
--- as at the next place
+-- an array that is filled up to a place has its old entry there
 pub getD-next : (f : ℕ → ℤ) (old : List ℤ) (m : ℕ) → getD (filled f old m) m (pos 0) ≡ getD old m (pos 0)
-getD-next f old m = rw add-zero at (getD-unfilled f old m 0)
+getD-next f old m = rw add-zero at (getD-unfilled f old m 0 (pos 0))
 
 -- the values of m numbers, and of n behind them
 pub tabulate-add : (f : ℕ → ℤ) (m n : ℕ) → tabulate (m + n) f ≡ tabulate m f ++ tabulate n (λ i. f (m + i))

@@ -1,7 +1,8 @@
 // What the search keeps of a table: for each row of its blocks the value, what is taken from the distance, and the key.
 use crate::block::block_count;
-use machine::scan::row_values;
+use machine::scan::byte_values;
 use table::table::Table;
+use table::table::byte_count;
 use table::table::row_count;
 ghost use mathlib.Core.Path.{_≡_};
 ghost use mathlib.Core.Bool.{false};
@@ -30,34 +31,34 @@ pub fn lane_values(table: Table) -> [bool; 256]
     requires { ⌜ table .n ≤ 8 ⌝ }
     ensures { λ r. ⌜ ((row : ℕ) → row < laneRows (table .n) → getD r row false ≡ laneValue table row) ⌝ }
 {
-    let mut values = row_values(table);
+    let bytes = table.bytes;
+    let mut values = byte_values(&bytes, byte_count(table.n));
     repeat_rows(&mut values, row_count(table.n));
     values
 }
 
-// Returns what is taken from the distance of each row of the blocks: its value as a number.
-pub fn row_ones(table: Table, values: &[bool; 256]) -> [i16; 256]
+// Stores what is taken from the distance of each row of the blocks: its value as a number.
+pub fn store_ones(ones: &mut [i16; 256], table: Table, values: &[bool; 256])
     requires { ⌜ (table .n ≤ 8) × ((row : ℕ) → row < laneRows (table .n) → getD (now values) row false ≡ laneValue table row) ⌝ }
-    ensures { λ r. ⌜ Holds (oneOf table) (laneRows (table .n)) r ⌝ }
+    requires { ⌜ length (now ones) ≡ 256 ⌝ }
+    ensures { λ _. ⌜ Holds (oneOf table) (laneRows (table .n)) (now (ones .exit)) ⌝ }
 {
     let rows = 32 * block_count(table.n);
-    let mut ones = [0i16; 256];
     let mut row: usize = 0;
     while row < rows {
         let one = values[row] as i16;
         ones[row] = one;
         row = row + 1;
     }
-    ones
 }
 
-// Returns the key of each row of the blocks.
-pub fn row_keys(table: Table, values: &[bool; 256]) -> [i16; 256]
+// Stores the key of each row of the blocks.
+pub fn store_keys(keys: &mut [i16; 256], table: Table, values: &[bool; 256])
     requires { ⌜ (table .n ≤ 8) × ((row : ℕ) → row < laneRows (table .n) → getD (now values) row false ≡ laneValue table row) ⌝ }
-    ensures { λ r. ⌜ Holds (keyOf table) (laneRows (table .n)) r ⌝ }
+    requires { ⌜ length (now keys) ≡ 256 ⌝ }
+    ensures { λ _. ⌜ Holds (keyOf table) (laneRows (table .n)) (now (keys .exit)) ⌝ }
 {
     let rows = 32 * block_count(table.n);
-    let mut keys = [0i16; 256];
     let mut row: usize = 0;
     while row < rows {
         let double = row as i16 * 2;
@@ -69,5 +70,4 @@ pub fn row_keys(table: Table, values: &[bool; 256]) -> [i16; 256]
         keys[row] = key;
         row = row + 1;
     }
-    keys
 }

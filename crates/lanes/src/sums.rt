@@ -74,11 +74,15 @@ pub fn vector_of(sums: &[i16; 40]) -> Vector
     }
 }
 
-// Whether two vectors of n inputs are equal, by their sums. The first pair of sums compares their b.
+// Whether two vectors of n inputs are equal, by their sums. The distance of row 31 has b and the weights of all five low inputs in it, so
+// most vectors that differ differ there: it is compared first, and the loop is seldom entered. The loop's first pair compares their b.
 pub fn same_sums(x: &[i16; 40], y: &[i16; 40], n: u8) -> bool
     requires { ⌜ n ≤ 8 ⌝ }
     ensures { λ r. ⌜ ((k : ℕ) (v s : Vector) → length (v .a) ≡ 8 → length (s .a) ≡ 8 → inRange k n (v .a) (v .b) ≡ true → inRange k n (s .a) (s .b) ≡ true → now (x .entry) ≡ vectorSums v → now (y .entry) ≡ vectorSums s → r ≡ sameVector v s) ⌝ }
 {
+    if x[31] != y[31] {
+        return false;
+    }
     let count = 32 + block_count(n);
     let mut at: usize = 0;
     while at < count {

@@ -24,6 +24,10 @@ module _ (bytes : List ℕ) where
   in-table-past : (m r : ℕ) → m ≤ r → inTable m bytes r ≡ false
   in-table-past m r h = rw (le-ltb r m h)
 
+  -- so the list has the value of each row below m
+  pub values-at : (m r : ℕ) → r < 256 → r < m → getD (valuesBelow m bytes) r false ≡ bitAt bytes r
+  values-at m r l h = getD-tabulate (inTable m bytes) 256 r false l ∙ in-table-below m r h
+
   -- no rows: all are false
   pub values-none : replicate 256 false ≡ valuesBelow 0 bytes
   unfolding tabulate

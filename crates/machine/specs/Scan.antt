@@ -1,5 +1,5 @@
 -- The lists in which the search for the lowest failing row works: the values of the rows, and the distances of the rows so far, of which an
--- input makes twice as many. For the inside of this crate alone. Definitions only. Assumes nothing.
+-- input makes twice as many. For the inside of the machine alone. Definitions only. Assumes nothing.
 use mathlib.Core.Path.{_≡_}
 use mathlib.Core.Bool.{Bool, false, cond}
 use mathlib.Core.List.{List}

@@ -1,5 +1,5 @@
 -- The values of a table's rows as bits of words, in which the search for a binate input works: row r is bit r mod 64 of word r div 64.
--- For the inside of this crate alone. Definitions only. Assumes nothing.
+-- For the inside of the machine alone. Definitions only. Assumes nothing.
 use mathlib.Core.Bool.{Bool, true, false, _&&_}
 use mathlib.Core.List.{List}
 use Prim.Native.Nat.{ℕ, zero, suc, _+_, _*_, _^_}

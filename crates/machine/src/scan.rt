@@ -34,18 +34,26 @@ fn store_byte(values: &mut [bool; 256], bytes: &[u8; 32], at: usize)
     }
 }
 
+// Returns the values of the rows of the first `count` bytes. The other rows are false.
+pub fn byte_values(bytes: &[u8; 32], count: usize) -> [bool; 256]
+    requires { ⌜ count ≤ 32 ⌝ }
+    ensures { λ r. ⌜ r ≡ valuesBelow (8 * count) (now (bytes .entry)) ⌝ }
+{
+    let mut values = [false; 256];
+    let mut byte: usize = 0;
+    while byte < count {
+        store_byte(&mut values, bytes, byte);
+        byte = byte + 1;
+    }
+    values
+}
+
 // Returns the table's value on each row.
 pub fn row_values(table: Table) -> [bool; 256]
     ensures { λ r. ⌜ r ≡ tabulate 256 (value table) ⌝ }
 {
     let bytes = table.bytes;
-    let mut values = [false; 256];
-    let mut byte: usize = 0;
-    while byte < 32 {
-        store_byte(&mut values, &bytes, byte);
-        byte = byte + 1;
-    }
-    values
+    byte_values(&bytes, 32)
 }
 
 // Whether a row of this value and distance fails: its margin is below 1.

@@ -8,7 +8,7 @@ use native.Mathlib.Nat.{eq-or-lt-of-le, le-of-suc-le-suc}
 use native.Mathlib.Numerals.{add-one}
 use native.Mathlib.Omega.{arith}
 use lib.ListN.{length, getD, set, drop, length-append, length-drop, drop-of-length-le, List·getD-append}
-use lib.Seq.{drop-cons, set-at, getD-at, ext-getD}
+use lib.Seq.{drop-cons, set-at, getD-at, getD-drop, getD-append-add, ext-getD}
 use Rattle.numbers.specs.Tabulate.{tabulate}
 
 -- the array `old` after a loop has stored f at each index below i
@@ -60,6 +60,13 @@ module _ {A : Type 0} (f : ℕ → A) where
       ∙ ap (filled f old) all
       ∙ ap (λ (l : List A). tabulate m f ++ l) (drop-of-length-le old h)
       ∙ append-nil (tabulate m f)
+
+  -- where nothing is stored yet, it has the old elements
+  pub getD-unfilled : (old : List A) (m i : ℕ) (d : A) → getD (filled f old m) (m + i) d ≡ getD old (m + i) d
+  getD-unfilled old m i d =
+      ap (λ (n : ℕ). getD (filled f old m) (n + i) d) (sym (length-tabulate m))
+      ∙ getD-append-add (tabulate m f) (drop m old) i d
+      ∙ getD-drop m old i d
 
   -- a store keeps the length
   pub length-filled : (old : List A) (i : ℕ) → i ≤ length old → length (filled f old i) ≡ length old

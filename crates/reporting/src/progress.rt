@@ -7,20 +7,15 @@ use crate::tally::no_tally;
 use crate::tally::with_record;
 use cell::refusal::Status;
 use job::batch::decided_by;
-use job::job::Job;
 use reading::head::read_head;
-use table::table::Table;
 ghost use mathlib.Core.Path.{_≡_};
-ghost use mathlib.Core.List.{[]};
 ghost use Prim.Native.Nat.{_≤_, _<_};
 ghost use lib.ListN.{length};
-ghost use Rattle.cell.specs.Refusal.{NoneBroken};
-ghost use Rattle.cell.specs.Calls.{tableRules};
 ghost use Rattle.machine.specs.Scan.{Holds};
 ghost use Rattle.lanes.specs.Codes.{stepAt};
 ghost use Rattle.codec.specs.Field.{writtenAt};
 ghost use Rattle.codec.specs.Head.{headAt};
-ghost use Rattle.reporting.specs.Report.{inputMost, decided, start, Bounded, lastOf, advanceBy, advance};
+ghost use Rattle.reporting.specs.Report.{inputMost, start, Bounded, lastOf, advanceBy, advance};
 
 // What comes next: a record, or the last line after a refusal, or nothing.
 pub enum Step {
@@ -54,15 +49,6 @@ pub fn at_start() -> Progress
         tally: no_tally(),
         step: Step::Records,
     }
-}
-
-// Returns the job of a table after one carry-on of 100,000.
-fn decided_job(table: Table, steps: &[i16; 2048]) -> Job
-    requires { ⌜ NoneBroken (tableRules table []) × Holds stepAt 2048 (now steps) ⌝ }
-    ensures { λ r. ⌜ r ≡ decided table ⌝ }
-{
-    let decided = decided_by(table, steps);
-    decided.job
 }
 
 // Makes the last line.
@@ -107,7 +93,7 @@ fn record_or_refusal(
             },
         };
     }
-    let job = decided_job(head.table, steps);
+    let job = decided_by(head.table, steps);
     let length = record_line(out, tally.records + 1, job);
     let stage = job.stage;
     Line {

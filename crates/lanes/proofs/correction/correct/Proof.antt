@@ -14,7 +14,7 @@ use borrow.Author.Needs.{needs}
 use Rattle.numbers.specs.Tabulate.{tabulate}
 use Rattle.machine.specs.Vector.{sign}
 use Rattle.lanes.specs.Codes.{rowCode}
-use Rattle.lanes.proofs.Entries.{getD-unfilled}
+use Rattle.numbers.proofs.TabulateLaws.{getD-unfilled}
 use Rattle.lanes.proofs.CorrectionLaws.{part, part-size, corrected-sums}
 use Rattle.lanes.proofs.correction.correct.Statement.{statement}
 use Rattle.lanes.proofs.correction.correct.Tie as tie
@@ -123,7 +123,7 @@ kept : (c : tie.After-add-high-arg2) (q : ℕ)
     → natAbs (getD (half c) (32 + q) (pos 0)) ≡ natAbs (getD (start c .args .sums .now) (32 + q) (pos 0))
 kept c q =
     ap (λ (l : List ℤ). natAbs (getD l (32 + q) (pos 0))) (c .before .before .add-low .ensures)
-    ∙ ap natAbs (getD-unfilled _ (start c .args .sums .now) 32 q)
+    ∙ ap natAbs (getD-unfilled _ (start c .args .sums .now) 32 q (pos 0))
 
 mul-add-high-2 : tie.Need-mul-add-high-2
 mul-add-high-2 c = double-fits _ (mod-lt (start c .args .code) (omega arith))

@@ -1,56 +1,74 @@
 -- `keys::lane_values` meets its contract: the rows of the first block have the values of the rows that they repeat, and those past it are
 -- the table's. Assumes nothing.
 use mathlib.Core.Path.{_≡_, sym, _∙_, ap}
-use mathlib.Core.Bool.{false}
-use Prim.Native.Nat.{ℕ, _%_, _^_, _≤_, _<_}
-use native.Mathlib.Nat.{mod-le, mod-eq-of-lt}
+use mathlib.Core.Bool.{Bool, false}
+use mathlib.Core.List.{List}
+use Prim.Native.Nat.{ℕ, _*_, _%_, _≤_, _<_}
+use native.Mathlib.Nat.{mod-lt, mod-eq-of-lt}
 use native.Mathlib.Decide.{decLe}
 use native.Mathlib.Omega.{arith}
 use borrow.Author.Needs.{needs}
 use lib.Pow.{pow-pos}
 use lib.ListN.{length, getD}
-use Rattle.numbers.proofs.TabulateLaws.{length-tabulate, getD-tabulate}
-use Rattle.table.specs.Table.{rows, value}
-use Rattle.table.proofs.TableLaws.{rows-le}
+use Rattle.numbers.proofs.TabulateLaws.{length-tabulate}
+use Rattle.table.specs.declared.table.Table.{Table}
+use Rattle.table.specs.Table.{rows, byteCount, value}
+use Rattle.table.proofs.TableLaws.{rows-le, bytes-le}
+use Rattle.machine.specs.Words.{inTable, valuesBelow}
+use Rattle.machine.proofs.ValueLaws.{values-at}
 use Rattle.lanes.specs.Blocks.{laneValue}
 use Rattle.lanes.proofs.BlockLaws.{past-block}
 use Rattle.lanes.proofs.keys.lane_values.Statement.{statement}
 use Rattle.lanes.proofs.keys.lane_values.Tie as tie
 
-row-values-requires : tie.Need-row-values-requires
-row-values-requires c κs = search needs
+byte-count-requires : tie.Need-byte-count-requires
+byte-count-requires c κs = search needs
+
+byte-values-requires : tie.Need-byte-values-requires
+byte-values-requires c κs =
+    let start = c .before .before .before in
+    omega (arith, c .byte-count .ensures, bytes-le {n = start .args .table .n} (start .pre))
 
 row-count-requires : tie.Need-row-count-requires
 row-count-requires c κs = search needs
 
+abbrev table : tie.After-byte-values → Table
+table c = c .before .before .before .before .args .table
+
+-- what was read: the values of the rows of the table's bytes
+read : (c : tie.After-byte-values) → c .byte-values .result ≡ valuesBelow (8 * byteCount (table c .n)) (table c .bytes)
+read c = rw (c .before .byte-count .ensures) at (c .byte-values .ensures)
+
+-- a row of the table has its value there
+read-at : (c : tie.After-byte-values) (r : ℕ) → r < rows (table c) → getD (c .byte-values .result) r false ≡ value (table c) r
+read-at c r h =
+    let few = rows-le {n = table c .n} (c .before .before .before .before .pre) in
+    ap (λ (l : List Bool). getD l r false) (read c)
+    ∙ values-at (table c .bytes) (8 * byteCount (table c .n)) r (omega arith) (omega arith)
+
 repeat-rows-requires : tie.Need-repeat-rows-requires
 repeat-rows-requires c κs =
     let told = c .before .before in
-    let t = told .before .args .table in
-    (omega (arith, c .row-count .ensures, pow-pos (t .n)), ap length (told .row-values .ensures) ∙ length-tabulate (value t) 256)
-
--- the value that was read of a row of the table
-read : (c : tie.After-repeat-rows) (r : ℕ) → r < 256
-    → let told = c .before .before .before in getD (told .row-values .result) r false ≡ value (told .before .args .table) r
-read c r h =
-    let told = c .before .before .before in
-    rw (told .row-values .ensures) (getD-tabulate (value (told .before .args .table)) 256 r false h)
+    let t = table told in (
+      omega (arith, c .row-count .ensures, pow-pos (t .n)),
+      ap length (read told) ∙ length-tabulate (inTable (8 * byteCount (t .n)) (t .bytes)) 256,
+    )
 
 returns : tie.Need-returns
 unfolding laneValue
 returns c r h = by (decLe 32 r)
   where
-    by : Dec (32 ≤ r) → getD (c .repeat-rows .last .0) r false ≡ laneValue (c .before .before .before .before .args .table) r
+    by : Dec (32 ≤ r) → getD (c .repeat-rows .last .0) r false ≡ laneValue (table (c .before .before .before)) r
     by (yes past) =
-        let t = c .before .before .before .before .args .table in
-        let inside = past-block (t .n) r past h in
-        c .repeat-rows .ensures .1 r past
-        ∙ read c r (omega (arith, rows-le {n = t .n} (c .before .before .before .before .pre)))
-        ∙ sym (ap (value t) (mod-eq-of-lt inside))
+        let told = c .before .before .before in
+        let inside = past-block (table told .n) r past h in
+        c .repeat-rows .ensures .1 r past ∙ read-at told r inside ∙ sym (ap (value (table told)) (mod-eq-of-lt inside))
     by (no first) =
-        let n = c .before .before .before .before .args .table .n in
+        let told = c .before .before .before in
         rw (c .before .row-count .ensures) at (c .repeat-rows .ensures .0 r (omega (arith, first)))
-        ∙ read c (r % 2 ^ n) (omega (arith, first, mod-le r (2 ^ n)))
+        ∙ read-at told (r % rows (table told)) (mod-lt r (pow-pos (table told .n)))
 
 pub lane-values-spec : {M : Type 1} → statement M
-lane-values-spec = tie.close (tie.spec row-values-requires row-count-requires repeat-rows-requires returns)
+lane-values-spec =
+    tie.close
+    (tie.spec byte-count-requires byte-values-requires row-count-requires repeat-rows-requires returns)

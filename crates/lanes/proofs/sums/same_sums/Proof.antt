@@ -1,6 +1,7 @@
 -- `sums::same_sums` meets its contract. The loop's invariant: the sums agree at each place below `at`. The measure is what is left of the
 -- places. Assumes nothing.
 use mathlib.Core.Path.{_≡_, sym, _∙_, ap}
+use mathlib.Core.Bool.{false}
 use mathlib.Core.List.{List}
 use Prim.Native.Nat.{ℕ, _-_, _^_, _≤_, _<_}
 use native.Mathlib.Omega.{arith}
@@ -28,13 +29,30 @@ Inv-loop x y n count at₀ at = (at ≤ count) × ((i : ℕ) → i < at → getD
 abbrev μ-loop : tie.MeasureT-loop
 μ-loop x y n count at₀ at = count - at
 
+-- vectors of which a sum differs are not equal
+apart : {x y : List ℤ} (at : ℕ) → (ofZ w16 (getD x at (pos 0)) ≡ ofZ w16 (getD y at (pos 0)) → ⊥)
+    → (v s : Vector) → x ≡ vectorSums v → y ≡ vectorSums s → false ≡ sameVector v s
+apart at differ v s x-is y-is =
+    let bits : List ℤ → ℕ = λ sums. ofZ w16 (getD sums at (pos 0)) in
+    let equal : v ≡ s → ⊥ = λ e. differ (ap bits x-is ∙ ap (λ (u : Vector). bits (vectorSums u)) e ∙ sym (ap bits y-is)) in
+    sym (not-passed (sameVector v s) (λ e. equal (same-vector-correct v s .0 e)))
+
+element-copy-out-if1 : tie.Need-element-copy-out-if1 Inv-loop μ-loop
+element-copy-out-if1 c = search needs
+
+element-copy-out-if1-2 : tie.Need-element-copy-out-if1-2 Inv-loop μ-loop
+element-copy-out-if1-2 c = search needs
+
+returns : tie.Need-returns Inv-loop μ-loop
+returns c k v s long long-s range range-s = apart 31 (c .if1 .taken) v s
+
 block-count-requires : tie.Need-block-count-requires Inv-loop μ-loop
 block-count-requires c κs = search needs
 
 -- there are at most eight blocks
 blocks-le : (c : tie.After-block-count Inv-loop μ-loop) → c .block-count .result ≤ 8
 blocks-le c =
-    let n = c .before .args .n in
+    let n = c .before .before .before .before .args .n in
     let most : 2 ^ (n - 5) ≤ 8 = pow-mono {j = 3} (omega arith) in
     omega (arith, c .block-count .ensures)
 
@@ -48,24 +66,20 @@ loop-holds c = (omega arith, λ i l. absurd (omega arith))
 in-sums : (c : tie.In-loop Inv-loop μ-loop) → c .before .loop .at < 40
 in-sums c = omega (arith, blocks-le (c .before .before))
 
-mul-if1 : tie.Need-mul-if1 Inv-loop μ-loop
-mul-if1 c = record { fits = omega (arith, in-sums c) }
+mul-if2 : tie.Need-mul-if2 Inv-loop μ-loop
+mul-if2 c = record { fits = omega (arith, in-sums c) }
 
-element-copy-out-if1 : tie.Need-element-copy-out-if1 Inv-loop μ-loop
-element-copy-out-if1 c = in-sums c
+element-copy-out-if2 : tie.Need-element-copy-out-if2 Inv-loop μ-loop
+element-copy-out-if2 c = in-sums c
 
-mul-if1-2 : tie.Need-mul-if1-2 Inv-loop μ-loop
-mul-if1-2 c = record { fits = omega (arith, in-sums (c .before)) }
+mul-if2-2 : tie.Need-mul-if2-2 Inv-loop μ-loop
+mul-if2-2 c = record { fits = omega (arith, in-sums (c .before)) }
 
-element-copy-out-if1-2 : tie.Need-element-copy-out-if1-2 Inv-loop μ-loop
-element-copy-out-if1-2 c = in-sums (c .before)
+element-copy-out-if2-2 : tie.Need-element-copy-out-if2-2 Inv-loop μ-loop
+element-copy-out-if2-2 c = in-sums (c .before)
 
-returns : tie.Need-returns Inv-loop μ-loop
-returns c k v s long long-s range range-s x-is y-is =
-    let at = c .before .before .before .before .loop .at in
-    let bits : List ℤ → ℕ = λ sums. ofZ w16 (getD sums at (pos 0)) in
-    let equal : v ≡ s → ⊥ = λ e. c .if1 .taken (ap bits x-is ∙ ap (λ (u : Vector). bits (vectorSums u)) e ∙ sym (ap bits y-is)) in
-    sym (not-passed (sameVector v s) (λ e. equal (same-vector-correct v s .0 e)))
+returns-2 : tie.Need-returns-2 Inv-loop μ-loop
+returns-2 c k v s long long-s range range-s = apart (c .before .before .before .before .loop .at) (c .if2 .taken) v s
 
 add-at : tie.Need-add-at Inv-loop μ-loop
 add-at c = record { fits = omega (arith, in-sums (c .before .before .before)) }
@@ -81,13 +95,13 @@ loop-again : tie.Need-loop-again Inv-loop μ-loop
 loop-again c = (
   omega arith,
   below-more _ _ (c .before .before .before .before .loop .inv .1)
-      (same-bits (record { sfits = c .before .before .if12 .given }) (record { sfits = c .before .if13 .given }) (c .if1 .left)),
+      (same-bits (record { sfits = c .before .before .if22 .given }) (record { sfits = c .before .if23 .given }) (c .if2 .left)),
 )
 
-returns-2 : tie.Need-returns-2 Inv-loop μ-loop
-returns-2 c k v s long long-s range range-s x-is y-is =
+returns-3 : tie.Need-returns-3 Inv-loop μ-loop
+returns-3 c k v s long long-s range range-s x-is y-is =
     let head = c .before in
-    let n = head .before .before .args .n in
+    let n = head .before .before .before .before .before .args .n in
     let agree = rw (x-is, y-is) at (head .loop .inv .1) in
     sym
     (same-vector-correct v s .1
@@ -102,15 +116,18 @@ same-sums-spec =
     (tie.spec
     Inv-loop
     μ-loop
+    element-copy-out-if1
+    element-copy-out-if1-2
+    returns
     block-count-requires
     add-count
     loop-holds
-    mul-if1
-    element-copy-out-if1
-    mul-if1-2
-    element-copy-out-if1-2
-    returns
+    mul-if2
+    element-copy-out-if2
+    mul-if2-2
+    element-copy-out-if2-2
+    returns-2
     add-at
     loop-less
     loop-again
-    returns-2)
+    returns-3)

@@ -1,5 +1,5 @@
 -- `progress::record_or_refusal` meets its contract: what the head gave leaves one of the two lines, and each has room. Assumes nothing.
-use mathlib.Core.Path.{_≡_, refl, sym, ap}
+use mathlib.Core.Path.{_≡_, refl, sym, _∙_, ap}
 use Prim.Native.Nat.{_+_, _≤_}
 use native.Mathlib.Omega.{arith}
 use lib.ListN.{length, getD}
@@ -16,9 +16,9 @@ use Rattle.codec.proofs.HeadLaws.{head-taken}
 use Rattle.reading.specs.declared.head.HeadField.{HeadField}
 use Rattle.reading.proofs.FieldFacts.{head-refused, head-done}
 use Rattle.reporting.specs.Lines.{recordLine}
-use Rattle.reporting.specs.Report.{advanceBy}
+use Rattle.reporting.specs.Report.{decided, advanceBy}
 use Rattle.reporting.proofs.AdvanceLaws.{made-by, record-made}
-use Rattle.reporting.proofs.DecidedLaws.{decided-table}
+use Rattle.reporting.proofs.DecidedLaws.{decided-run, decided-table}
 use Rattle.reporting.proofs.RoomLaws.{refusal-room}
 use Rattle.reporting.proofs.RecordRoom.{Held, record-room}
 use Rattle.reporting.proofs.progress.record_or_refusal.Statement.{statement}
@@ -71,33 +71,37 @@ was-read c =
     let a = start-of c .args in
     head-done (headAt 1 (now (a .input)) (a .at)) (c .before .before .read-head .ensures) (c .enum-told .given .1)
 
-decided-job-requires : tie.Need-decided-job-requires
-decided-job-requires c κs =
-    let a = start-of c .args in
-    (head-taken 1 (now (a .input)) (a .at) (field-of c) (was-read c), start-of c .pre .6)
+-- its table keeps its format
+few-inputs : (c : tie.After-enum-told) → head-of c .table .n ≤ 8
+few-inputs c =
+    let a = start-of c .args in kept-inputs (head-of c .table) (head-taken 1 (now (a .input)) (a .at) (field-of c) (was-read c))
+
+decided-by-requires : tie.Need-decided-by-requires
+decided-by-requires c κs = (few-inputs c, start-of c .pre .6)
+
+-- the job is the one that a report shows
+is-decided : (c : tie.After-decided-by) → c .decided-by .result ≡ decided (head-of (c .before) .table)
+is-decided c = c .decided-by .ensures ∙ decided-run (head-of (c .before) .table)
 
 -- the numbers of the job fit their types
-held : (c : tie.After-decided-job) → Held (c .decided-job .result)
+held : (c : tie.After-decided-by) → Held (c .decided-by .result)
 held c = record {
   k = search needs;
-  count = λ r. let f : Fits w32 (getD (c .decided-job .result .counts) r 0) = search needs in omega arith;
+  count = λ r. let f : Fits w32 (getD (c .decided-by .result .counts) r 0) = search needs in omega arith;
   weights = search needs;
   weight = λ place. search (needs, signed-fits-field);
   threshold = search needs;
 }
 
 -- its table is the one that was read
-job-inputs : (c : tie.After-decided-job) → c .decided-job .result .table .n ≤ 8
-job-inputs c =
-    let t = head-of (c .before) .table in
-    let taken = head-taken 1 (now (start-of (c .before) .args .input)) (start-of (c .before) .args .at) (field-of (c .before)) (was-read (c .before)) in
-    rw (c .decided-job .ensures, decided-table t) (kept-inputs t taken)
+job-inputs : (c : tie.After-decided-by) → c .decided-by .result .table .n ≤ 8
+job-inputs c = rw (is-decided c, decided-table (head-of (c .before) .table)) (few-inputs (c .before))
 
 -- so its line has room
-line-room : (c : tie.After-decided-job) → length (recordLine (start-of (c .before) .args .tally .records + 1) (c .decided-job .result)) ≤ 4096
+line-room : (c : tie.After-decided-by) → length (recordLine (start-of (c .before) .args .tally .records + 1) (c .decided-by .result)) ≤ 4096
 line-room c =
     let start = start-of (c .before) in
-    record-room (c .decided-job .result) (held c) (start .args .tally .records + 1) (omega (arith, start .pre .0)) (job-inputs c)
+    record-room (c .decided-by .result) (held c) (start .args .tally .records + 1) (omega (arith, start .pre .0)) (job-inputs c)
 
 add-record-line : tie.Need-add-record-line
 add-record-line c = search needs
@@ -117,7 +121,7 @@ returns-2 c =
     let job = c .before .before .before .before .before .before in
     let a = start-of (job .before) .args in
     let call = c .before .before .before .record-line in
-    let line = record-made (a .at) (a .tally) (field-of (job .before)) (now (a .out)) (job .decided-job .ensures) (c .with-record .ensures) (call .ensures) in
+    let line = record-made (a .at) (a .tally) (field-of (job .before)) (now (a .out)) (is-decided job) (c .with-record .ensures) (call .ensures) in
     (made-by (now (a .out)) (ap (advanceBy (a .at) (a .tally)) (sym (was-read (job .before)))) line, omega (arith, call .ensures .0, line-room job))
 
 pub record-or-refusal-spec : {M : Type 1} → statement M
@@ -131,7 +135,7 @@ record-or-refusal-spec =
     same-length
     returns
     enum-told
-    decided-job-requires
+    decided-by-requires
     add-record-line
     record-line-requires
     with-record-requires

@@ -143,7 +143,7 @@ steps-requires c κs =
     let at = left .before .before in
     let says = told at .before .before .job-status .ensures in
     let done = told at .enum-told .given .1 in
-    (job-inputs (self (told at)) says done, job-sound (self (told at)) says done, is-open at, capped left, c .before .step-table .ensures)
+    (job-inputs (self (told at)) says done, job-sound (self (told at)) says done, capped left, c .before .step-table .ensures)
 
 sub-made : tie.Need-sub-made
 sub-made c =

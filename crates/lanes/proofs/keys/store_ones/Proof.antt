@@ -1,4 +1,4 @@
--- `keys::row_ones` meets its contract. The loop's invariant: `ones` holds the values of the rows below `row` as numbers. The measure is
+-- `keys::store_ones` meets its contract. The loop's invariant: `ones` holds the values of the rows below `row` as numbers. The measure is
 -- what is left of the rows. Assumes nothing.
 use mathlib.Core.Path.{_≡_, refl, _∙_}
 use mathlib.Core.Bool.{Bool, true, false}
@@ -11,27 +11,27 @@ use mir.Val.{toZ, boolByte}
 use Rattle.machine.specs.Scan.{Holds}
 use Rattle.lanes.proofs.BlockLaws.{blocks-le}
 use Rattle.lanes.proofs.KeyLaws.{oneBy, one-by, holds-more}
-use Rattle.lanes.proofs.keys.row_ones.Statement.{statement}
-use Rattle.lanes.proofs.keys.row_ones.Tie as tie
+use Rattle.lanes.proofs.keys.store_ones.Statement.{statement}
+use Rattle.lanes.proofs.keys.store_ones.Tie as tie
 
 abbrev Inv-loop : tie.InvT-loop
-Inv-loop values rows ones₀ row₀ ones row =
+Inv-loop ones₀ values rows row₀ ones row =
     (rows ≤ 256) × (row ≤ rows) × (length ones ≡ 256) × Holds (λ r. oneBy (getD values r false)) row ones
 
 abbrev μ-loop : tie.MeasureT-loop
-μ-loop values rows ones₀ row₀ ones row = rows - row
+μ-loop ones₀ values rows row₀ ones row = rows - row
 
 block-count-requires : tie.Need-block-count-requires Inv-loop μ-loop
 block-count-requires c κs = search needs
 
 mul-rows : tie.Need-mul-rows Inv-loop μ-loop
-mul-rows c = record { fits = omega (arith, c .block-count .ensures, blocks-le (c .before .args .table .n) (c .before .pre .0)) }
+mul-rows c = record { fits = omega (arith, c .block-count .ensures, blocks-le (c .before .args .table .n) (c .before .pre .0 .0)) }
 
 loop-holds : tie.Need-loop-holds Inv-loop μ-loop
 loop-holds c = (
-  omega (arith, c .block-count .ensures, blocks-le (c .before .args .table .n) (c .before .pre .0)),
+  omega (arith, c .block-count .ensures, blocks-le (c .before .args .table .n) (c .before .pre .0 .0)),
   omega arith,
-  refl,
+  c .before .pre .1,
   λ r l. absurd (omega arith),
 )
 
@@ -41,11 +41,11 @@ element-copy-out-one c = search needs
 cast-one : tie.Need-cast-one Inv-loop μ-loop
 cast-one c = search needs
 
-mul-ones : tie.Need-mul-ones Inv-loop μ-loop
-mul-ones c = search needs
+mul-one : tie.Need-mul-one Inv-loop μ-loop
+mul-one c = search needs
 
-array-set-from-ones : tie.Need-array-set-from-ones Inv-loop μ-loop
-array-set-from-ones c = search needs
+element-set-from-one : tie.Need-element-set-from-one Inv-loop μ-loop
+element-set-from-one c = search needs
 
 add-row : tie.Need-add-row Inv-loop μ-loop
 add-row c = search needs
@@ -73,10 +73,10 @@ returns : tie.Need-returns Inv-loop μ-loop
 returns c r l =
     let head = c .before in
     let start = head .before .before in
-    head .loop .inv .3 r (omega (arith, head .before .block-count .ensures)) ∙ one-by (start .args .table) r (start .pre .1 r l)
+    head .loop .inv .3 r (omega (arith, head .before .block-count .ensures)) ∙ one-by (start .args .table) r (start .pre .0 .1 r l)
 
-pub row-ones-spec : {M : Type 1} → statement M
-row-ones-spec =
+pub store-ones-spec : {M : Type 1} → statement M
+store-ones-spec =
     tie.close
     (tie.spec
     Inv-loop
@@ -86,8 +86,8 @@ row-ones-spec =
     loop-holds
     element-copy-out-one
     cast-one
-    mul-ones
-    array-set-from-ones
+    mul-one
+    element-set-from-one
     add-row
     loop-less
     loop-again

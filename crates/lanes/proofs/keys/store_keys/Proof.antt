@@ -1,6 +1,6 @@
--- `keys::row_keys` meets its contract. The loop's invariant: `keys` holds the keys of the rows below `row`. The measure is what is left of
+-- `keys::store_keys` meets its contract. The loop's invariant: `keys` holds the keys of the rows below `row`. The measure is what is left of
 -- the rows. Assumes nothing.
-use mathlib.Core.Path.{_≡_, refl, sym, _∙_, ap}
+use mathlib.Core.Path.{_≡_, sym, _∙_, ap}
 use mathlib.Core.Bool.{Bool, false}
 use mathlib.Core.Logic.{⊎-elim}
 use Prim.Native.Nat.{ℕ, _+_, _*_, _-_, _≤_, _<_}
@@ -16,27 +16,27 @@ use Rattle.numbers.proofs.Widths.{size-fits}
 use Rattle.machine.specs.Scan.{Holds}
 use Rattle.lanes.proofs.BlockLaws.{blocks-le}
 use Rattle.lanes.proofs.KeyLaws.{keyBy, key-by, holds-more}
-use Rattle.lanes.proofs.keys.row_keys.Statement.{statement}
-use Rattle.lanes.proofs.keys.row_keys.Tie as tie
+use Rattle.lanes.proofs.keys.store_keys.Statement.{statement}
+use Rattle.lanes.proofs.keys.store_keys.Tie as tie
 
 abbrev Inv-loop : tie.InvT-loop
-Inv-loop values rows keys₀ row₀ keys row =
+Inv-loop keys₀ values rows row₀ keys row =
     (rows ≤ 256) × (row ≤ rows) × (length keys ≡ 256) × Holds (λ r. keyBy (getD values r false) r) row keys
 
 abbrev μ-loop : tie.MeasureT-loop
-μ-loop values rows keys₀ row₀ keys row = rows - row
+μ-loop keys₀ values rows row₀ keys row = rows - row
 
 block-count-requires : tie.Need-block-count-requires Inv-loop μ-loop
 block-count-requires c κs = search needs
 
 mul-rows : tie.Need-mul-rows Inv-loop μ-loop
-mul-rows c = record { fits = omega (arith, c .block-count .ensures, blocks-le (c .before .args .table .n) (c .before .pre .0)) }
+mul-rows c = record { fits = omega (arith, c .block-count .ensures, blocks-le (c .before .args .table .n) (c .before .pre .0 .0)) }
 
 loop-holds : tie.Need-loop-holds Inv-loop μ-loop
 loop-holds c = (
-  omega (arith, c .block-count .ensures, blocks-le (c .before .args .table .n) (c .before .pre .0)),
+  omega (arith, c .block-count .ensures, blocks-le (c .before .args .table .n) (c .before .pre .0 .0)),
   omega arith,
-  refl,
+  c .before .pre .1,
   λ r l. absurd (omega arith),
 )
 
@@ -86,11 +86,11 @@ sub-key-2 c =
     let turn = c .before .before in
     rw (lower c) (low-fits (2 * row turn) 32768 (omega arith) (omega arith))
 
-mul-keys : tie.Need-mul-keys Inv-loop μ-loop
-mul-keys c = search needs
+mul-key : tie.Need-mul-key Inv-loop μ-loop
+mul-key c = search needs
 
-array-set-from-keys : tie.Need-array-set-from-keys Inv-loop μ-loop
-array-set-from-keys c = search needs
+element-set-from-key : tie.Need-element-set-from-key Inv-loop μ-loop
+element-set-from-key c = search needs
 
 add-row : tie.Need-add-row Inv-loop μ-loop
 add-row c = search needs
@@ -139,10 +139,10 @@ returns : tie.Need-returns Inv-loop μ-loop
 returns c r l =
     let head = c .before in
     let start = head .before .before in
-    head .loop .inv .3 r (omega (arith, head .before .block-count .ensures)) ∙ key-by (start .args .table) r (start .pre .1 r l)
+    head .loop .inv .3 r (omega (arith, head .before .block-count .ensures)) ∙ key-by (start .args .table) r (start .pre .0 .1 r l)
 
-pub row-keys-spec : {M : Type 1} → statement M
-row-keys-spec =
+pub store-keys-spec : {M : Type 1} → statement M
+store-keys-spec =
     tie.close
     (tie.spec
     Inv-loop
@@ -156,8 +156,8 @@ row-keys-spec =
     add-key
     sub-key
     sub-key-2
-    mul-keys
-    array-set-from-keys
+    mul-key
+    element-set-from-key
     add-row
     loop-less
     loop-again
