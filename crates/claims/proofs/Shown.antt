@@ -14,11 +14,12 @@ use Rattle.cell.proofs.RefusalLaws.{answered-none-broken}
 use Rattle.job.specs.declared.job.Job.{Job}
 use Rattle.job.specs.declared.job.Stage.{Stage}
 use Rattle.job.specs.declared.job.Stage.the-variants.{Open, Found, Looped, Binate}
-use Rattle.job.specs.declared.view.Shown.{Shown}
-use Rattle.job.specs.declared.view.Verdict.the-variants as Verdict′
 use Rattle.job.specs.Sound.{Sound}
-use Rattle.job.specs.Calls.{jobRules, showJob, shownIn, gateOf, witnessOf}
+use Rattle.job.specs.Calls.{jobRules, gateOf, witnessOf}
 use Rattle.job.proofs.JobChecked.{kept-sound}
+use Rattle.view.specs.declared.shown.Shown.{Shown}
+use Rattle.view.specs.declared.shown.Verdict.the-variants as Verdict′
+use Rattle.view.specs.Calls.{showJob, shownIn}
 use Rattle.theory.proofs.Answers.{EndedWithout, found-realises, found-accepted, ended-accepted, ended-excludes}
 
 -- a job that is shown is sound, and its table is not refused

@@ -13,11 +13,12 @@ use Rattle.cell.specs.Calls.{tableRules, pastRows, checkGate, checkWitness}
 use Rattle.machine.specs.Failing.{fails}
 use Rattle.job.specs.declared.job.Job.{Job}
 use Rattle.job.specs.declared.job.Stage.the-variants.{Open, Found, Looped, Binate}
-use Rattle.job.specs.declared.view.Shown.{Shown}
-use Rattle.job.specs.declared.view.Verdict.the-variants as Verdict′
 use Rattle.job.specs.Machine.{step, run, fresh}
 use Rattle.job.specs.Sound.{cap, Sound, isSound}
-use Rattle.job.specs.Calls.{callBudget, freshJob, decidedJob, jobRules, budgetRange, pastCap, carryOn, carried, rowFails, showJob, shownIn}
+use Rattle.job.specs.Calls.{callBudget, freshJob, decidedJob, jobRules, budgetRange, pastCap, carryOn, carried}
+use Rattle.view.specs.declared.shown.Shown.{Shown}
+use Rattle.view.specs.declared.shown.Verdict.the-variants as Verdict′
+use Rattle.view.specs.Calls.{rowFails, showJob, shownIn}
 use Rattle.theory.specs.Bound.{squares, factor}
 use Rattle.claims.specs.Claims.{ByRules}
 

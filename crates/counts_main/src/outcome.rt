@@ -5,9 +5,9 @@ use cell::refusal::Answer;
 use cell::refusal::Status;
 use job::job::Job;
 use job::job::Stage;
-use job::view::Verdict;
-use job::view::show;
 use table::table::Table;
+use view::shown::Verdict;
+use view::shown::show;
 ghost use Prim.Native.Nat.{_≤_, _<_};
 
 // The stages by number.

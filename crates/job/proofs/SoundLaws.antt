@@ -7,15 +7,15 @@ use mathlib.Core.Option.{Option, some, none}
 use Prim.Native.Nat.{ℕ, suc, _+_, _^_, _≤_}
 use native.Mathlib.Omega.{arith}
 use lib.Dec.{leb, eqb}
-use lib.ListN.{length, getD, length-replicate}
-use lib.Seq.{ext-getD}
+use lib.ListN.{length, length-replicate}
 use lib.IntN.{ℤ, pos, _+ℤ_}
 use borrow.Author.Tests.{leb-true, le-leb, eqb-true, eq-eqb}
 use Rattle.numbers.specs.Tests.{allAtMost, allBelow, isSome}
 use Rattle.numbers.proofs.TestLaws.{no-true, and-left, and-right, and-both, all-below-at, all-below-from}
 use Rattle.table.specs.declared.table.Table.{Table}
-use Rattle.table.specs.Witness.{sideSum, countOf}
+use Rattle.table.specs.Witness.{sideSum, countOf, sameCounts}
 use Rattle.table.specs.Inputs.{firstTurn}
+use Rattle.table.proofs.WitnessLaws.{same-counts-correct}
 use Rattle.job.specs.declared.job.Job.{Job}
 use Rattle.job.specs.declared.job.Stage.{Stage}
 use Rattle.job.specs.declared.job.Stage.the-variants.{Open, Found, Looped, Binate}
@@ -23,7 +23,7 @@ use Rattle.machine.specs.Failing.{failing}
 use Rattle.machine.specs.Binate.{oneMore, binatePlace, binateCounts, pairMore, zeros}
 use Rattle.machine.specs.Vector.{sameZ, sameVector, zeroVector}
 use Rattle.machine.specs.Vector.{component}
-use Rattle.job.specs.Sound.{Shaped, Traced, SoundIn, Sound, isShaped, isTraced, sameCounts, isBinateWith, soundIn, isSound}
+use Rattle.job.specs.Sound.{Shaped, Traced, SoundIn, Sound, isShaped, isTraced, isBinateWith, soundIn, isSound}
 use Rattle.machine.proofs.VectorLaws.{same-z-correct, same-vector-correct, length-one-more}
 
 -- ---- tests and what they say
@@ -99,14 +99,6 @@ traced-correct j =
       λ e i h. same-z-correct (left i) (right i) .0 (all-below-at (suc (j .table .n)) (λ p. sameZ (left p) (right p)) e i (omega arith)),
       λ f. all-below-from (suc (j .table .n)) (λ p. sameZ (left p) (right p)) (λ i h. same-z-correct (left i) (right i) .1 (f i (omega arith))),
     )
-
--- lists of 256 counts are equal exactly if they agree at each place
-pub same-counts-correct : (xs ys : List ℕ) → length xs ≡ 256 → length ys ≡ 256 → sameCounts xs ys ≡ true ↔ xs ≡ ys
-unfolding sameCounts
-same-counts-correct xs ys n m = (
-  λ e. ext-getD 0 xs ys (n ∙ sym m) (λ r h. eqb-true _ _ (all-below-at 256 (λ q. eqb (getD xs q 0) (getD ys q 0)) e r (omega arith))),
-  λ e. all-below-from 256 (λ q. eqb (getD xs q 0) (getD ys q 0)) (λ r h. eq-eqb _ _ (ap (λ (l : List ℕ). getD l r 0) e)),
-)
 
 -- there are as many counts as before
 pub length-pair-more : (place : ℕ) (o : Option ℕ) (counts : List ℕ) → length (pairMore place o counts) ≡ length counts

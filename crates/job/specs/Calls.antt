@@ -1,6 +1,6 @@
 -- The calls on a job: for each its rules in their order, and its answer (document 01, "The stepping machine" and "Who causes which
 -- number"). Definitions only. Assumes nothing.
-use mathlib.Core.Bool.{Bool, not, _||_}
+use mathlib.Core.Bool.{not, _||_}
 use mathlib.Core.List.{List, [], _∷_}
 use Prim.Native.Nat.{ℕ, _+_, _-_}
 use lib.Dec.{ltb, eqb}
@@ -10,16 +10,13 @@ use Rattle.table.specs.declared.table.Table.{Table}
 use Rattle.table.specs.declared.gate.Gate.{Gate}
 use Rattle.table.specs.declared.witness.Witness.{Witness}
 use Rattle.cell.specs.Refusal.{Rule, rule, Answered, answered, refused, checked}
-use Rattle.cell.specs.Calls.{tableRules, pastRows}
+use Rattle.cell.specs.Calls.{tableRules}
 use Rattle.cell.specs.declared.refusal.Status.the-variants as Status′
 use Rattle.job.specs.declared.job.Job.{Job}
 use Rattle.job.specs.declared.job.Stage.{Stage}
 use Rattle.job.specs.declared.job.Stage.the-variants.{Open, Found, Looped, Binate}
 use Rattle.job.specs.declared.job.Started.{Started}
 use Rattle.job.specs.declared.job.Carried.{Carried}
-use Rattle.job.specs.declared.view.Verdict.the-variants as Verdict′
-use Rattle.job.specs.declared.view.Shown.{Shown}
-use Rattle.machine.specs.Failing.{fails}
 use Rattle.job.specs.Machine.{run, fresh, startJob}
 use Rattle.machine.specs.Binate.{zeros}
 use Rattle.job.specs.Sound.{cap, isSound}
@@ -83,12 +80,7 @@ abbrev pub carried : Job → Answered Job → Carried
 carried j (answered next) = record { status = Status′.Done; job = next; made = next .k - j .k }
 carried j (refused n) = record { status = Status′.Refused n; job = j; made = 0 }
 
--- ---- whether a row fails in a job: 2, 3, 9, 14
-
-abbrev pub rowFails : Job → ℕ → Answered Bool
-rowFails j r = checked (jobRules j (pastRows (j .table .n) r ∷ [])) (answered (fails (j .table) (j .v) r))
-
--- ---- what a job shows: 2, 3, 9
+-- ---- what an ended job has
 
 -- the gate of a found job: weights ai, and T = b
 abbrev pub gateOf : Job → Gate
@@ -98,24 +90,9 @@ gateOf j = record { n = j .table .n; weights = j .v .a; threshold = j .v .b }
 abbrev pub witnessOf : Job → Witness
 witnessOf j = record { counts = j .counts }
 
--- what stands beside a verdict that has no gate, and beside one that has no witness: zeros
+-- what stands where there is no gate, and where there is no witness: zeros
 abbrev pub noGate : Gate
 noGate = record { n = 0; weights = replicate 8 (pos 0); threshold = pos 0 }
 
 abbrev pub noWitness : Witness
 noWitness = record { counts = zeros }
-
--- a found job shows its gate, a looped or binate one its witness; an open one is given up so far
-abbrev pub shownIn : Stage → Job → Shown
-shownIn Open j = record { verdict = Verdict′.Open; gate = noGate; witness = noWitness }
-shownIn Found j = record { verdict = Verdict′.Gate; gate = gateOf j; witness = noWitness }
-shownIn Looped j = record { verdict = Verdict′.Witness; gate = noGate; witness = witnessOf j }
-shownIn Binate j = record { verdict = Verdict′.Witness; gate = noGate; witness = witnessOf j }
-
-abbrev pub showJob : Job → Answered Shown
-showJob j = checked (jobRules j []) (answered (shownIn (j .stage) j))
-
--- beside a refusal there is neither
-abbrev pub shown : Answered Shown → Shown
-shown (answered s) = s
-shown (refused n) = record { verdict = Verdict′.Refused n; gate = noGate; witness = noWitness }

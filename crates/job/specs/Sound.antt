@@ -2,17 +2,16 @@
 -- Definitions only. Assumes nothing.
 use mathlib.Core.Path.{_≡_}
 use mathlib.Core.Bool.{Bool, true, false, not, _&&_, _||_}
-use mathlib.Core.List.{List}
 use mathlib.Core.Option.{Option, some, none}
 use Prim.Native.Nat.{ℕ, suc, _+_, _-_, _≤_}
 use lib.Dec.{leb, eqb}
-use lib.ListN.{length, getD, drop}
+use lib.ListN.{length, drop}
 use lib.IntN.{pos, _+ℤ_}
 use Rattle.numbers.specs.Tests.{allAtMost, allBelow, isSome}
 use Rattle.table.specs.declared.table.Table.{Table}
 use Rattle.table.specs.Table.{rows}
 use Rattle.table.specs.Gate.{inRange}
-use Rattle.table.specs.Witness.{sideSum, countOf}
+use Rattle.table.specs.Witness.{sideSum, countOf, sameCounts}
 use Rattle.machine.specs.declared.vector.Vector.{Vector}
 use Rattle.job.specs.declared.job.Job.{Job}
 use Rattle.job.specs.declared.job.Stage.{Stage}
@@ -81,9 +80,6 @@ isTraced j =
     eqb (sideSum (j .table) true (countOf (j .counts)) 0 + sideSum (j .table) false (countOf (j .counts)) 0 + j .mark) (j .k)
     && allBelow (suc (j .table .n))
     (λ i. sameZ (component (j .v) i +ℤ pos (sideSum (j .table) false (countOf (j .counts)) i)) (component (j .s) i +ℤ pos (sideSum (j .table) true (countOf (j .counts)) i)))
-
-unfoldable pub sameCounts : List ℕ → List ℕ → Bool
-sameCounts xs ys = allBelow 256 (λ r. eqb (getD xs r 0) (getD ys r 0))
 
 abbrev pub isBinateWith : Option ℕ → Job → Bool
 isBinateWith none j = false

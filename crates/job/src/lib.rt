@@ -1,6 +1,5 @@
-// Jobs of the stepping machine: made fresh, carried on by corrections until a gate or a witness is found, and shown. The functions of the
-// private modules ask for a job that keeps its ranges, and `batch`, which is for `reporting`, for the table of steps; the calls of `job` and `view`
-// take anything.
+// Jobs of the stepping machine: made fresh, and carried on by corrections until a gate or a witness is found. The functions of the private
+// modules ask for a job that keeps its ranges, and `batch`, which is for `reporting`, for the table of steps; the calls of `job` take anything.
 pub mod batch;
 mod chunk;
 mod core;
@@ -8,5 +7,3 @@ pub mod job;
 mod sound;
 mod start;
 mod stepping;
-mod trace;
-pub mod view;

@@ -1,7 +1,6 @@
 // The test that a job is sound, whatever it holds.
 use crate::job::Job;
 use crate::job::Stage;
-use crate::trace::is_traced;
 use machine::binate::binate_counts;
 use machine::binate::binate_place;
 use machine::power::top_power;
@@ -9,12 +8,14 @@ use machine::scan::first_failing;
 use machine::scan::row_values;
 use machine::vector::Vector;
 use machine::vector::same_vector;
-use table::gate::in_range;
+use machine::vector::vector_within;
 use table::inputs::Found;
 use table::inputs::is_row;
 use table::table::Table;
 use table::table::row_count;
 use table::witness::counts_within;
+use table::witness::same_counts;
+use trace::traced::is_traced;
 ghost use mathlib.Core.Path.{_≡_};
 ghost use mathlib.Core.Bool.{true, false, not, _&&_, _||_};
 ghost use Prim.Native.Nat.{_+_, _≤_, _<_};
@@ -26,7 +27,7 @@ ghost use Rattle.table.specs.Gate.{inRange};
 ghost use Rattle.machine.specs.Vector.{sameVector, zeroVector};
 ghost use Rattle.machine.specs.Failing.{failing};
 ghost use Rattle.machine.specs.Binate.{binatePlace};
-ghost use Rattle.job.specs.Sound.{cap, markFor, isTraced, sameCounts, isBinateWith, soundIn, isSound};
+ghost use Rattle.job.specs.Sound.{cap, markFor, isTraced, isBinateWith, soundIn, isSound};
 
 // Whether some row fails.
 fn some_fails(job: Job) -> bool
@@ -59,20 +60,6 @@ fn has_looped(job: Job) -> bool
     ensures { λ r. ⌜ r ≡ (leb 2 (job .k) && sameVector (job .v) (job .s)) ⌝ }
 {
     2 <= job.k && same_vector(job.v, job.s)
-}
-
-// Whether the counts are the same.
-fn same_counts(x: [u32; 256], y: [u32; 256]) -> bool
-    ensures { λ r. ⌜ r ≡ sameCounts x y ⌝ }
-{
-    let mut row: usize = 0;
-    while row < 256 {
-        if x[row] != y[row] {
-            return false;
-        }
-        row = row + 1;
-    }
-    true
 }
 
 // Whether the table is binate, and the counts are those that show it.
@@ -114,10 +101,11 @@ fn is_unate_trace(job: Job) -> bool
     requires { ⌜ job .table .n ≤ 8 ⌝ }
     ensures { λ r. ⌜ r ≡ (isTraced job && not (isSome (binatePlace (job .table)))) ⌝ }
 {
-    if !is_traced(job) {
+    let table = job.table;
+    let counts = job.counts;
+    if !is_traced(table, counts, job.v, job.s, job.mark, job.k) {
         return false;
     }
-    let table = job.table;
     !is_row(binate_place(table))
 }
 
@@ -145,14 +133,6 @@ fn sound_in(job: Job) -> bool
         Stage::Looped => is_unate_trace(job) && has_looped(job),
         Stage::Binate => is_binate_start(job),
     }
-}
-
-// Whether the components of a vector are within ±k, and the places past n are 0.
-fn vector_within(v: Vector, n: u8, k: u32) -> bool
-    ensures { λ r. ⌜ r ≡ inRange k n (v .a) (v .b) ⌝ }
-{
-    let a = v.a;
-    in_range(a, v.b, n, k)
 }
 
 // Whether K is at most the cap, v and s are within ±K, and the counts past the table are 0.

@@ -4,16 +4,15 @@ use cell::refusal::Status;
 use job::job::Carried;
 use job::job::Job;
 use job::job::job_status;
-use job::view;
-use job::view::Shown;
-use job::view::row_fails;
 use machine::vector::Vector;
 use samples::compare::is_gate_of;
-use samples::compare::same_counts;
 use samples::compare::same_job;
 use samples::compare::same_table;
 use table::table::Table;
+use table::witness::same_counts;
 use vectors::show;
+use view::shown::Shown;
+use view::shown::row_fails;
 
 // Prints the fresh job of a table.
 pub fn on_table(table: Table) {
@@ -33,7 +32,7 @@ pub fn on_job(job: Job, row: usize, budget: u32) {
     show::word(b" row_fails");
     show::answer(row_fails(job, row));
     show::word(b" show");
-    shown(job, view::show(job));
+    shown(job, view::shown::show(job));
     show::word(b" carry_on");
     carried(job, job.carry_on(budget));
 }

@@ -1,10 +1,10 @@
 // The parts of an answer on standard output.
 use cell::refusal::Status;
 use job::job::Job;
-use job::view::Verdict;
 use machine::vector::Vector;
 use samples::compare::letter;
 use vectors::show;
+use view::shown::Verdict;
 
 // Writes done or a refusal's number.
 pub fn status(status: Status) {

@@ -6,13 +6,13 @@ use cell::refusal::Answer;
 use cell::refusal::Status;
 use job::job::Carried;
 use job::job::Job;
-use job::view::Verdict;
-use job::view::row_fails;
 use samples::compare::same_job;
 use table::gate::Gate;
 use table::table::Table;
 use table::witness::Witness;
 use vectors::show;
+use view::shown::Verdict;
+use view::shown::row_fails;
 ghost use Prim.Native.Nat.{_≤_};
 
 // Prints what the call gave, and returns the verdict's letter.
@@ -31,7 +31,7 @@ pub fn show_call(carried: Carried) -> u8 {
 
 // Prints the verdict's letter, K and the gate or witness with what the checker says of it; returns the letter.
 fn show_verdict(job: Job) -> u8 {
-    let shown = job::view::show(job);
+    let shown = view::shown::show(job);
     let table = job.table;
     let k = job.k as u64;
     let verdict = shown.verdict;

@@ -1,4 +1,5 @@
 // The vector v = (a1..an, b) of a job: a weight for each place, and the threshold.
+use table::gate::in_range;
 ghost use mathlib.Core.Path.{_≡_};
 ghost use mathlib.Core.Bool.{true};
 ghost use Prim.Native.Nat.{_<_};
@@ -44,4 +45,12 @@ pub fn same_vector(v: Vector, s: Vector) -> bool
         place = place + 1;
     }
     true
+}
+
+// Whether the components of a vector are within ±k, and the places past n are 0.
+pub fn vector_within(v: Vector, n: u8, k: u32) -> bool
+    ensures { λ r. ⌜ r ≡ inRange k n (v .a) (v .b) ⌝ }
+{
+    let a = v.a;
+    in_range(a, v.b, n, k)
 }

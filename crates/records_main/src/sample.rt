@@ -12,13 +12,13 @@ use records::write::write_gate;
 use records::write::write_table;
 use records::write::write_witness;
 use samples::compare::is_gate_of;
-use samples::compare::same_counts;
 use samples::compare::same_job;
 use samples::compare::same_table;
 use samples::make;
 use table::gate::Gate;
 use table::table::Table;
 use table::witness::Witness;
+use table::witness::same_counts;
 use vectors::text::first;
 use vectors::text::word;
 

@@ -1,9 +1,11 @@
 -- A text that is written into a buffer field by field: at each position the bytes that are left to write, the room for them, and that with
 -- them the whole text is written. Assumes nothing.
+use mathlib.Core.Path.{_≡_}
 use mathlib.Core.List.{List, [], _∷_, _++_}
 use Prim.Native.Nat.{ℕ, _+_, _≤_, _<_}
 use native.Mathlib.Omega.{arith}
 use lib.ListN.{length, set, length-append}
+use Rattle.codec.specs.Field.{writtenAt}
 use Rattle.codec.proofs.WrittenLaws.{Written, written-one, written-room, written-next}
 
 -- a text w goes into `old` at a position: `out` has its first bytes, and the rest is left to write from `here` on
@@ -26,6 +28,11 @@ module _ {old : List ℕ} {at : ℕ} {w out : List ℕ} {here : ℕ} (x y : List
     room = written-room out here x y (left .room) p;
     done = λ q. left .done (written-next out here x y (left .room) p q);
   }
+
+-- with the last field a line, which is a text at the start, is written
+pub line-done : {old w out rest last : List ℕ} {here next : ℕ} → Left old 0 w out here rest → Written out here rest last next
+    → (next ≡ length w) × (last ≡ writtenAt old 0 w)
+line-done left p = let (n, l) = left .done p in (omega (arith, n), l)
 
 -- a byte that is stored is a field
 pub stored-byte : (out : List ℕ) (here b : ℕ) → here < length out → Written out here (b ∷ []) (set out here b) (here + 1)

@@ -1,5 +1,5 @@
--- The line of a record fits into 4,096 bytes where the job's numbers fit the code's types: most of it are the pairs of 256 rows, each of at
--- most 15 bytes. Assumes nothing.
+-- The line of a record fits into the room of a line where the job's numbers fit the code's types: most of it are the pairs of 256 rows,
+-- each of at most 15 bytes. Assumes nothing.
 use mathlib.Core.Path.{_≡_}
 use mathlib.Core.List.{List}
 use Prim.Native.Nat.{ℕ, zero, suc, _+_, _*_, _^_, _≤_, _<_}
@@ -19,7 +19,7 @@ use Rattle.job.specs.declared.job.Job.{Job}
 use Rattle.job.specs.declared.job.Stage.{Stage}
 use Rattle.job.specs.declared.job.Stage.the-variants.{Open, Found, Looped, Binate}
 use Rattle.reporting.specs.Text.{decimal, signedText}
-use Rattle.reporting.specs.Lines.{size, weightsText, gateText, height, pairText, pairsText, witnessText, openText, verdictText, recordLine}
+use Rattle.reporting.specs.Lines.{lineRoom, size, weightsText, gateText, height, pairText, pairsText, witnessText, openText, verdictText, recordLine}
 use Rattle.reporting.proofs.TextLaws.{decimal-most}
 use Rattle.reporting.proofs.HeightLaws.{height-most}
 use Rattle.reporting.proofs.PairTextLaws.{pairs-text-zero, pairs-text-suc}
@@ -88,7 +88,7 @@ module _ (j : Job) (held : Held j) where
   verdict-most h Binate = witness-most h
 
   -- a line with a position of 64 bits
-  pub record-room : (position : ℕ) → position < 2 ^ 64 → j .table .n ≤ 8 → length (recordLine position j) ≤ 4096
+  pub record-room : (position : ℕ) → position < 2 ^ 64 → j .table .n ≤ 8 → length (recordLine position j) ≤ lineRoom
   unfolding recordLine
   record-room position p h =
       simp length-append (omega (arith, decimal-most 19 position (omega arith), decimal-most 0 (j .table .n) (omega arith), verdict-most h (j .stage)))

@@ -1,13 +1,13 @@
--- The last line and the line of a refusal fit into 4,096 bytes: a number has at most twenty digits. Assumes nothing.
+-- The last line and the line of a refusal fit into the room of a line: a number has at most twenty digits. Assumes nothing.
 use Prim.Native.Nat.{ℕ, zero, suc, _/_, _%_, _≤_}
 use native.Mathlib.Omega.{arith}
 use lib.ListN.{length, length-append}
 use Rattle.reporting.specs.declared.tally.Tally.{Tally}
-use Rattle.reporting.specs.Lines.{refusalLine, meanTenths, meanText, lastLine}
+use Rattle.reporting.specs.Lines.{lineRoom, refusalLine, meanTenths, meanText, lastLine}
 use Rattle.reporting.proofs.TextLaws.{decimal-twenty}
 
 -- the line of a refusal
-pub refusal-room : (position number : ℕ) → length (refusalLine position number) ≤ 4096
+pub refusal-room : (position number : ℕ) → length (refusalLine position number) ≤ lineRoom
 unfolding refusalLine
 refusal-room position number = simp length-append (omega (arith, decimal-twenty position, decimal-twenty number))
 
@@ -19,7 +19,7 @@ mean-most (suc gates) sum =
     rw length-append (omega (arith, decimal-twenty (tenths / 10), decimal-twenty (tenths % 10)))
 
 -- the last line
-pub last-room : (t : Tally) → length (lastLine t) ≤ 4096
+pub last-room : (t : Tally) → length (lastLine t) ≤ lineRoom
 unfolding lastLine
 last-room t =
     simp length-append

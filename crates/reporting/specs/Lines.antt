@@ -16,6 +16,10 @@ use Rattle.job.specs.declared.job.Stage.the-variants.{Open, Found, Looped, Bina
 use Rattle.reporting.specs.declared.tally.Tally.{Tally}
 use Rattle.reporting.specs.Text.{decimal, signedText, spaced, lineFeed}
 
+-- the room that every line fits into
+abbrev pub lineRoom : ℕ
+lineRoom = 4096
+
 -- ---- G: K, size, weights, T
 
 -- the sum of the weights plus T

@@ -1,5 +1,6 @@
 // The lines of a report, each made at the start of a lent buffer. The functions return its length.
 use crate::tally::Tally;
+use crate::text::put_byte;
 use crate::text::put_decimal;
 use crate::text::put_letter;
 use crate::text::put_number;
@@ -82,9 +83,9 @@ fn put_pair(out: &mut [u8], at: usize, row: u64, count: u32) -> usize
     if count == 0 {
         return at;
     }
-    let middle = put_number(out, at, row);
-    out[middle] = b':';
-    put_decimal(out, middle + 1, count as u64)
+    let mut here = put_number(out, at, row);
+    here = put_byte(out, here, b':');
+    put_decimal(out, here, count as u64)
 }
 
 // Writes the pairs of so many rows.
@@ -139,8 +140,7 @@ pub fn record_line(out: &mut [u8], position: u64, job: Job) -> usize
     let mut here = put_decimal(out, 0, position);
     here = put_number(out, here, job.table.n as u64);
     here = put_verdict(out, here, job);
-    out[here] = b'\n';
-    here + 1
+    put_byte(out, here, b'\n')
 }
 
 // Makes the line of a refusal: position, R, number.
@@ -151,8 +151,7 @@ pub fn refusal_line(out: &mut [u8], position: u64, number: u8) -> usize
     let mut here = put_decimal(out, 0, position);
     here = put_letter(out, here, b'R');
     here = put_number(out, here, number as u64);
-    out[here] = b'\n';
-    here + 1
+    put_byte(out, here, b'\n')
 }
 
 // Writes the mean of K in tenths, half up, or "-" if there is none.
@@ -161,13 +160,12 @@ fn put_mean(out: &mut [u8], at: usize, gates: u64, sum: u64) -> usize
     ensures { λ r. ⌜ (r ≡ at + length (meanText gates sum)) × (now (out .exit) ≡ writtenAt (now (out .entry)) at (meanText gates sum)) ⌝ }
 {
     if gates == 0 {
-        out[at] = b'-';
-        return at + 1;
+        return put_byte(out, at, b'-');
     }
     let tenths = (20 * sum + gates) / (2 * gates);
-    let point = put_decimal(out, at, tenths / 10);
-    out[point] = b'.';
-    put_decimal(out, point + 1, tenths % 10)
+    let mut here = put_decimal(out, at, tenths / 10);
+    here = put_byte(out, here, b'.');
+    put_decimal(out, here, tenths % 10)
 }
 
 // Makes the last line: records read whole, the numbers of G, N and S, and the mean.
@@ -179,10 +177,9 @@ pub fn last_line(out: &mut [u8], tally: Tally) -> usize
     here = put_number(out, here, tally.gates);
     here = put_number(out, here, tally.witnesses);
     here = put_number(out, here, tally.opens);
-    out[here] = b' ';
-    here = put_mean(out, here + 1, tally.gates, tally.sum);
-    out[here] = b'\n';
-    here + 1
+    here = put_byte(out, here, b' ');
+    here = put_mean(out, here, tally.gates, tally.sum);
+    put_byte(out, here, b'\n')
 }
 
 // Makes the only line of an input that is too long.

@@ -15,6 +15,7 @@ ghost use Rattle.machine.specs.Scan.{Holds};
 ghost use Rattle.lanes.specs.Codes.{stepAt};
 ghost use Rattle.codec.specs.Field.{writtenAt};
 ghost use Rattle.codec.specs.Head.{headAt};
+ghost use Rattle.reporting.specs.Lines.{lineRoom};
 ghost use Rattle.reporting.specs.Report.{inputMost, start, Bounded, lastOf, advanceBy, advance};
 
 // What comes next: a record, or the last line after a refusal, or nothing.
@@ -37,7 +38,7 @@ pub struct Line {
     pub next: Progress,
 }
 
-// The room that a line may need.
+// The room that every line fits into.
 pub const LINE_ROOM: usize = 4096;
 
 // Returns the start of a report.
@@ -53,9 +54,9 @@ pub fn at_start() -> Progress
 
 // Makes the last line.
 fn ended(at: usize, tally: Tally, out: &mut [u8]) -> Line
-    requires { ⌜ (tally .gates ≤ 65536) × (tally .sum ≤ 65536000000) × (4096 ≤ length (now out)) ⌝ }
+    requires { ⌜ (tally .gates ≤ 65536) × (tally .sum ≤ 65536000000) × (lineRoom ≤ length (now out)) ⌝ }
     ensures { λ r. ⌜ (r .length ≡ length (lastOf at tally .line)) × (r .next ≡ lastOf at tally .next) × (now (out .exit) ≡ writtenAt (now (out .entry)) 0 (lastOf at tally .line)) ⌝ }
-    ensures { λ r. ⌜ r .length ≤ 4096 ⌝ }
+    ensures { λ r. ⌜ r .length ≤ lineRoom ⌝ }
 {
     let length = last_line(out, tally);
     Line {
@@ -76,9 +77,9 @@ fn record_or_refusal(
     steps: &[i16; 2048],
     out: &mut [u8],
 ) -> Line
-    requires { ⌜ (tally .records ≤ 65536) × (tally .gates ≤ 65536) × (tally .witnesses ≤ 65536) × (tally .opens ≤ 65536) × (tally .sum ≤ 65536000000) × (4096 ≤ length (now out)) × Holds stepAt 2048 (now steps) ⌝ }
+    requires { ⌜ (tally .records ≤ 65536) × (tally .gates ≤ 65536) × (tally .witnesses ≤ 65536) × (tally .opens ≤ 65536) × (tally .sum ≤ 65536000000) × (lineRoom ≤ length (now out)) × Holds stepAt 2048 (now steps) ⌝ }
     ensures { λ r. ⌜ (r .length ≡ length (advanceBy at tally (headAt 1 (now (input .entry)) at) .line)) × (r .next ≡ advanceBy at tally (headAt 1 (now (input .entry)) at) .next) × (now (out .exit) ≡ writtenAt (now (out .entry)) 0 (advanceBy at tally (headAt 1 (now (input .entry)) at) .line)) ⌝ }
-    ensures { λ r. ⌜ r .length ≤ 4096 ⌝ }
+    ensures { λ r. ⌜ r .length ≤ lineRoom ⌝ }
 {
     let head = read_head(input, at, 1);
     let status = head.status;
@@ -108,9 +109,9 @@ fn record_or_refusal(
 
 // Makes the next line of the report of an input, at the start of a lent buffer. `steps` is the table of steps, which a caller makes once.
 pub fn next_line(input: &[u8], progress: Progress, steps: &[i16; 2048], out: &mut [u8]) -> Line
-    requires { ⌜ (length (now input) ≤ inputMost) × Bounded progress × (4096 ≤ length (now out)) × Holds stepAt 2048 (now steps) ⌝ }
+    requires { ⌜ (length (now input) ≤ inputMost) × Bounded progress × (lineRoom ≤ length (now out)) × Holds stepAt 2048 (now steps) ⌝ }
     ensures { λ r. ⌜ (r .length ≡ length (advance (now (input .entry)) progress .line)) × (r .next ≡ advance (now (input .entry)) progress .next) × (now (out .exit) ≡ writtenAt (now (out .entry)) 0 (advance (now (input .entry)) progress .line)) ⌝ }
-    ensures { λ r. ⌜ Bounded (r .next) × (r .length ≤ 4096) ⌝ }
+    ensures { λ r. ⌜ Bounded (r .next) × (r .length ≤ lineRoom) ⌝ }
 {
     let tally = progress.tally;
     let step = progress.step;

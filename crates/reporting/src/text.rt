@@ -37,6 +37,15 @@ pub fn put_decimal(out: &mut [u8], at: usize, x: u64) -> usize
     end
 }
 
+// Writes a byte.
+pub fn put_byte(out: &mut [u8], at: usize, byte: u8) -> usize
+    requires { ⌜ at + 1 ≤ length (now out) ⌝ }
+    ensures { λ r. ⌜ (r ≡ at + 1) × (now (out .exit) ≡ writtenAt (now (out .entry)) at (byte ∷ [])) ⌝ }
+{
+    out[at] = byte;
+    at + 1
+}
+
 // Writes a space and a letter.
 pub fn put_letter(out: &mut [u8], at: usize, letter: u8) -> usize
     requires { ⌜ at + 2 ≤ length (now out) ⌝ }
@@ -52,8 +61,8 @@ pub fn put_number(out: &mut [u8], at: usize, x: u64) -> usize
     requires { ⌜ at + length (spaced (decimal x)) ≤ length (now out) ⌝ }
     ensures { λ r. ⌜ (r ≡ at + length (spaced (decimal x))) × (now (out .exit) ≡ writtenAt (now (out .entry)) at (spaced (decimal x))) ⌝ }
 {
-    out[at] = b' ';
-    put_decimal(out, at + 1, x)
+    let here = put_byte(out, at, b' ');
+    put_decimal(out, here, x)
 }
 
 // Writes a space and a signed number.

@@ -1,10 +1,11 @@
-// Whether tables, counts, gates and jobs are the same in every field.
+// Whether tables, gates and jobs are the same in every field.
 use job::job::Job;
 use job::job::Stage;
 use machine::vector::Vector;
 use machine::vector::same_vector;
 use table::gate::Gate;
 use table::table::Table;
+use table::witness::same_counts;
 
 // Returns the letter of a stage.
 pub fn letter(stage: Stage) -> u8 {
@@ -33,18 +34,6 @@ pub fn same_table(x: Table, y: Table) -> bool {
     let x_bytes = x.bytes;
     let y_bytes = y.bytes;
     x.n == y.n && same_bytes(x_bytes, y_bytes)
-}
-
-// Whether the counts are the same.
-pub fn same_counts(x: [u32; 256], y: [u32; 256]) -> bool {
-    let mut row: usize = 0;
-    while row < 256 {
-        if x[row] != y[row] {
-            return false;
-        }
-        row = row + 1;
-    }
-    true
 }
 
 // Whether the gate has n inputs, with the weights and T that a vector is.

@@ -1,15 +1,18 @@
--- Witnesses: the computed test `balances` with its meaning, both directions. Assumes nothing.
-use mathlib.Core.Path.{_≡_}
+-- Witnesses: the computed tests `balances` and `sameCounts` with their meaning, both directions. Assumes nothing.
+use mathlib.Core.Path.{_≡_, sym, _∙_, ap}
 use mathlib.Core.Bool.{Bool, true, false}
 use mathlib.Core.Logic.{_↔_}
+use mathlib.Core.List.{List}
 use Prim.Native.Nat.{ℕ, zero, suc, _≤_}
 use native.Mathlib.Omega.{arith}
 use lib.Dec.{ltb, eqb}
+use lib.ListN.{length, getD}
+use lib.Seq.{ext-getD}
 use borrow.Author.Tests.{ltb-true, lt-ltb, eqb-true, eq-eqb}
 use Rattle.numbers.proofs.TestLaws.{and-left, and-right, and-both, all-below-at, all-below-from}
 use Rattle.table.specs.declared.table.Table.{Table}
 use Rattle.table.specs.declared.witness.Witness.{Witness}
-use Rattle.table.specs.Witness.{sideSum, Balances, countOf, balances}
+use Rattle.table.specs.Witness.{sideSum, Balances, countOf, balances, sameCounts}
 
 -- the two sides of a balance have the same total of each input, of input 0 too
 pub side-sums-equal : {t : Table} {count : ℕ → ℕ} → Balances t count → (i : ℕ) → i ≤ t .n → sideSum t true count i ≡ sideSum t false count i
@@ -38,3 +41,11 @@ balances-correct t w = (balanced, passes)
 
     passes : Balances t (countOf (w .counts)) → balances t w ≡ true
     passes b = and-both (lt-ltb _ _ (b .above)) (all-below-from (suc (t .n)) same (λ i h. eq-eqb _ _ (side-sums-equal b i (omega arith))))
+
+-- lists of 256 counts are equal exactly if they agree at each place
+pub same-counts-correct : (xs ys : List ℕ) → length xs ≡ 256 → length ys ≡ 256 → sameCounts xs ys ≡ true ↔ xs ≡ ys
+unfolding sameCounts
+same-counts-correct xs ys n m = (
+  λ e. ext-getD 0 xs ys (n ∙ sym m) (λ r h. eqb-true _ _ (all-below-at 256 (λ q. eqb (getD xs q 0) (getD ys q 0)) e r (omega arith))),
+  λ e. all-below-from 256 (λ q. eqb (getD xs q 0) (getD ys q 0)) (λ r h. eq-eqb _ _ (ap (λ (l : List ℕ). getD l r 0) e)),
+)

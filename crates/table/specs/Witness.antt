@@ -44,6 +44,10 @@ balances t w =
     ltb 0 (sideSum t true (countOf (w .counts)) 0)
     && allBelow (suc (t .n)) (λ i. eqb (sideSum t true (countOf (w .counts)) i) (sideSum t false (countOf (w .counts)) i))
 
+-- the test that two arrays have the same counts
+unfoldable pub sameCounts : List ℕ → List ℕ → Bool
+sameCounts xs ys = allBelow 256 (λ r. eqb (getD xs r 0) (getD ys r 0))
+
 -- a count lies in 0 to 1,000,000
 abbrev pub countLimit : ℕ
 countLimit = 1000000

@@ -6,7 +6,7 @@ ghost use mathlib.Core.Path.{_≡_};
 ghost use Prim.Native.Nat.{_≤_, _<_};
 ghost use lib.ListN.{drop};
 ghost use Rattle.numbers.specs.Tests.{allAtMost};
-ghost use Rattle.table.specs.Witness.{inputLevel, sideSum, countOf, balances, unfit};
+ghost use Rattle.table.specs.Witness.{inputLevel, sideSum, countOf, balances, sameCounts, unfit};
 
 // A count for each row of eight inputs. Rows past the table have count 0.
 pub struct Witness {
@@ -72,6 +72,20 @@ pub fn counts_within(counts: [u32; 256], from: usize, limit: u32) -> bool
     let mut row = from;
     while row < 256 {
         if limit < counts[row] {
+            return false;
+        }
+        row = row + 1;
+    }
+    true
+}
+
+// Whether the counts are the same.
+pub fn same_counts(x: [u32; 256], y: [u32; 256]) -> bool
+    ensures { λ r. ⌜ r ≡ sameCounts x y ⌝ }
+{
+    let mut row: usize = 0;
+    while row < 256 {
+        if x[row] != y[row] {
             return false;
         }
         row = row + 1;

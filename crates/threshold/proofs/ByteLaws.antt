@@ -5,11 +5,8 @@ use Prim.Native.Nat.{ℕ, zero, suc, _+_, _*_, _/_, _%_, _<_}
 use native.Mathlib.Omega.{arith}
 use lib.ListN.{length, getD, drop}
 use lib.IntN.{ℤ, pos, negsuc}
-use Rattle.numbers.proofs.TabulateLaws.{length-tabulate, tabulate-getD, filled}
-use Rattle.table.specs.declared.table.Table.{Table}
+use Rattle.numbers.proofs.TabulateLaws.{tabulate-getD, filled}
 use Rattle.table.specs.declared.inputs.Place.{Place}
-use Rattle.table.specs.Inputs.{placeAt, kindsOf}
-use Rattle.table.specs.Chow.{chowAt, chowOf}
 use Rattle.cell.specs.Answers.{idle}
 use Rattle.codec.specs.Field.{writtenAt}
 use Rattle.threshold.specs.Inputs.{kindByte, kindBytes, word, chowBytes}
@@ -20,11 +17,6 @@ use Rattle.threshold.specs.Inputs.{kindByte, kindBytes, word, chowBytes}
 pub kind-count : (places : List Place) → length (kindBytes places) ≡ length places
 kind-count [] = refl
 kind-count (p ∷ places) = ap suc (kind-count places)
-
--- a table has eight
-pub kinds-count : (t : Table) → length (kindBytes (kindsOf t)) ≡ 8
-unfolding kindsOf
-kinds-count t = kind-count (kindsOf t) ∙ length-tabulate (placeAt t) 8
 
 -- the byte of a place; past the last it is that of an idle input
 pub kind-at : (places : List Place) (i : ℕ) → getD (kindBytes places) i 0 ≡ kindByte (getD places i idle .kind)
@@ -42,11 +34,6 @@ pub chow-count : (qs : List ℤ) → length (chowBytes qs) ≡ 2 * length qs
 unfolding chowBytes
 chow-count [] = refl
 chow-count (q ∷ qs) = omega (arith, chow-count qs)
-
--- a table has sixteen
-pub chows-count : (t : Table) → length (chowBytes (chowOf t)) ≡ 16
-unfolding chowOf
-chows-count t = omega (arith, chow-count (chowOf t), length-tabulate (chowAt t) 8)
 
 -- a signed number takes two bytes
 pub word-small : (z : ℤ) → word z < 65536

@@ -41,8 +41,10 @@ pub returned-refused : {a : Answered (List ℕ)} (old : List ℕ) {n : ℕ} {r :
 returned-refused old e q = returned-as old e (q, refl)
 
 -- bytes that do not fit are refused with 12
-pub no-room : (room : ℕ) (bytes : List ℕ) → room < length bytes → refused 12 ≡ fitted room bytes
-no-room room bytes h = rule-broken 12 [] (answered bytes) (lt-ltb room (length bytes) h)
+pub returned-short : (old bytes : List ℕ) {n : ℕ} {r : ℤ} → length bytes ≡ n → length old < n → r ≡ asResult (refused 12)
+    → Returned (fitted (length old) bytes) old r old
+returned-short old bytes long h =
+    returned-refused old (rule-broken 12 [] (answered bytes) (lt-ltb (length old) (length bytes) (omega arith)))
 
 -- bytes that fit stand in the buffer
 pub returned-bytes : (old bytes : List ℕ) {n : ℕ} {new : List ℕ} → length bytes ≡ n → n ≤ length old → new ≡ writtenAt old 0 bytes

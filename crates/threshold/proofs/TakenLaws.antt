@@ -1,4 +1,4 @@
--- What was read of bytes: the record that its kind says, and what a call on a table or on a job comes to on it. Assumes nothing.
+-- What was read of bytes: the record that its kind says, and what a call comes to on it. Assumes nothing.
 use mathlib.Core.Path.{_≡_, refl, sym, _∙_, ap}
 use mathlib.Core.Logic.{⊎-elim}
 use mathlib.Core.List.{List, [], _∷_}
@@ -22,7 +22,7 @@ use Rattle.records.specs.Calls.{tooShort, recordRules, asRead}
 use Rattle.records.proofs.WriteBack.{write-back}
 use Rattle.records.proofs.read.Kind.{the-type}
 use Rattle.threshold.specs.Result.{andThen, numberFor}
-use Rattle.threshold.specs.Interface.{tableIn, jobIn, tableRead, jobRead}
+use Rattle.threshold.specs.Interface.{tableIn, jobIn, tableRead, jobRead, checkIn, valueIn}
 
 -- the record of a kind, from the parts that were read
 abbrev pub recordOf : Kind → Read → Answered Record
@@ -45,14 +45,44 @@ module _ (s : List ℕ) {r : Read} (says : r ≡ asRead (readRecord s)) where
   pub read-as : {k : Kind} → r .kind ≡ k → readRecord s ≡ recordOf k r
   read-as e = from-parts (readRecord s) ∙ ap (λ (x : Read). recordOf (x .kind) x) (sym says) ∙ ap (λ (k : Kind). recordOf k r) e
 
+  -- a call on a kind that it takes comes to what it says of the record
+  pub taken : {A : Type 0} (later : Record → Answered A) {k : Kind} → r .kind ≡ k → andThen (recordOf k r) later ≡ andThen (readRecord s) later
+  taken later e = ap (λ (x : Answered Record). andThen x later) (sym (read-as e))
+
+  -- on any other kind, one of the tags, it is refused
+  pub not-taken : {A : Type 0} (later : Record → Answered A) (tags : List ℕ)
+      → ((k : Kind) → OneOf tags (tagOf the-type k) → refused (numberFor k) ≡ andThen (recordOf k r) later)
+      → OneOf tags (tagOf the-type (r .kind)) → refused (numberFor (r .kind)) ≡ andThen (readRecord s) later
+  not-taken later tags by other = by (r .kind) other ∙ taken later refl
+
+  -- ---- a call on a gate or a witness, and a call on a table or a gate
+
+  pub no-certificate : OneOf (0 ∷ 3 ∷ 4 ∷ []) (tagOf the-type (r .kind)) → refused (numberFor (r .kind)) ≡ andThen (readRecord s) checkIn
+  no-certificate = not-taken checkIn (0 ∷ 3 ∷ 4 ∷ []) by
+    where
+      by : (k : Kind) → OneOf (0 ∷ 3 ∷ 4 ∷ []) (tagOf the-type k) → refused (numberFor k) ≡ andThen (recordOf k r) checkIn
+      by Kind′.Table o = refl
+      by Kind′.Gate o = absurd (⊎-elim (λ e. omega arith) (⊎-elim (λ e. omega arith) (λ e. omega arith)) o)
+      by Kind′.Witness o = absurd (⊎-elim (λ e. omega arith) (⊎-elim (λ e. omega arith) (λ e. omega arith)) o)
+      by Kind′.Job o = refl
+      by (Kind′.Refused n) o = refl
+
+  pub no-value : (row : ℕ) → OneOf (2 ∷ 3 ∷ 4 ∷ []) (tagOf the-type (r .kind)) → refused (numberFor (r .kind)) ≡ andThen (readRecord s) (valueIn row)
+  no-value row = not-taken (valueIn row) (2 ∷ 3 ∷ 4 ∷ []) by
+    where
+      by : (k : Kind) → OneOf (2 ∷ 3 ∷ 4 ∷ []) (tagOf the-type k) → refused (numberFor k) ≡ andThen (recordOf k r) (valueIn row)
+      by Kind′.Table o = absurd (⊎-elim (λ e. omega arith) (⊎-elim (λ e. omega arith) (λ e. omega arith)) o)
+      by Kind′.Gate o = absurd (⊎-elim (λ e. omega arith) (⊎-elim (λ e. omega arith) (λ e. omega arith)) o)
+      by Kind′.Witness o = refl
+      by Kind′.Job o = refl
+      by (Kind′.Refused n) o = refl
+
   -- ---- a call on a table
 
   -- on another kind it is refused
   pub no-table : OneOf (1 ∷ 2 ∷ 3 ∷ 4 ∷ []) (tagOf the-type (r .kind)) → {A : Type 0} (later : Table → Answered A)
       → refused (numberFor (r .kind)) ≡ andThen (tableRead s) later
-  no-table other later =
-      let same = by (r .kind) other ∙ ap (λ (x : Answered Record). andThen x tableIn) (sym (read-as refl)) in
-      ap (λ (t : Answered Table). andThen t later) same
+  no-table other later = ap (λ (t : Answered Table). andThen t later) (not-taken tableIn (1 ∷ 2 ∷ 3 ∷ 4 ∷ []) by other)
     where
       by : (k : Kind) → OneOf (1 ∷ 2 ∷ 3 ∷ 4 ∷ []) (tagOf the-type k) → refused (numberFor k) ≡ andThen (recordOf k r) tableIn
       by Kind′.Table o = absurd (⊎-elim (λ e. omega arith) (⊎-elim (λ e. omega arith) (⊎-elim (λ e. omega arith) (λ e. omega arith))) o)
@@ -63,7 +93,7 @@ module _ (s : List ℕ) {r : Read} (says : r ≡ asRead (readRecord s)) where
 
   -- else it is what comes after the table
   pub with-table : r .kind ≡ Kind′.Table → {A : Type 0} (later : Table → Answered A) → later (r .table) ≡ andThen (tableRead s) later
-  with-table e later = ap (λ (x : Answered Record). andThen (andThen x tableIn) later) (sym (read-as e))
+  with-table e later = ap (λ (t : Answered Table). andThen t later) (taken tableIn e)
 
   -- which keeps its format, since a record that was read keeps the rules of a writer
   pub table-taken : AllBytes s → r .kind ≡ Kind′.Table → NoneBroken (tableRules (r .table) [])
@@ -77,9 +107,7 @@ module _ (s : List ℕ) {r : Read} (says : r ≡ asRead (readRecord s)) where
   -- on another kind it is refused
   pub no-job : OneOf (0 ∷ 1 ∷ 2 ∷ 4 ∷ []) (tagOf the-type (r .kind)) → {A : Type 0} (later : Job → Answered A)
       → refused (numberFor (r .kind)) ≡ andThen (jobRead s) later
-  no-job other later =
-      let same = by (r .kind) other ∙ ap (λ (x : Answered Record). andThen x jobIn) (sym (read-as refl)) in
-      ap (λ (j : Answered Job). andThen j later) same
+  no-job other later = ap (λ (j : Answered Job). andThen j later) (not-taken jobIn (0 ∷ 1 ∷ 2 ∷ 4 ∷ []) by other)
     where
       by : (k : Kind) → OneOf (0 ∷ 1 ∷ 2 ∷ 4 ∷ []) (tagOf the-type k) → refused (numberFor k) ≡ andThen (recordOf k r) jobIn
       by Kind′.Table o = refl
@@ -90,4 +118,4 @@ module _ (s : List ℕ) {r : Read} (says : r ≡ asRead (readRecord s)) where
 
   -- else it is what comes after the job
   pub with-job : r .kind ≡ Kind′.Job → {A : Type 0} (later : Job → Answered A) → later (r .job) ≡ andThen (jobRead s) later
-  with-job e later = ap (λ (x : Answered Record). andThen (andThen x jobIn) later) (sym (read-as e))
+  with-job e later = ap (λ (j : Answered Job). andThen j later) (taken jobIn e)

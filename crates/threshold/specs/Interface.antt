@@ -14,6 +14,8 @@ use Rattle.job.specs.declared.job.Stage.the-variants.{Open, Found, Looped, Bina
 use Rattle.job.specs.Machine.{run, fresh}
 use Rattle.job.specs.Calls.{callBudget, carryOn, gateOf, witnessOf}
 use Rattle.records.specs.Record.{Record, ofTable, ofGate, ofWitness, ofJob, recordBytes, readRecord}
+use Rattle.threshold.specs.declared.tables.Asked.{Asked}
+use Rattle.threshold.specs.declared.tables.Asked.the-variants as Asked′
 use Rattle.threshold.specs.Result.{andThen, said, fitted}
 use Rattle.threshold.specs.Inputs.{kindBytes, chowBytes}
 
@@ -65,7 +67,7 @@ abbrev pub outcomeWritten : ℕ → Job → Answered (List ℕ)
 outcomeWritten room j = fitted room (recordBytes (outcome j))
 
 -- kind 1: the fresh job, one carry-on of 100,000 corrections, and what it has come to
-unfoldable pub decide : List ℕ → ℕ → Answered (List ℕ)
+abbrev pub decide : List ℕ → ℕ → Answered (List ℕ)
 decide s room = andThen (tableRead s) (λ t. outcomeWritten room (run callBudget (fresh t)))
 
 -- kind 4, carried on by the budget: 10, 11, and what it has come to
@@ -103,9 +105,16 @@ valueOn s row = andThen (readRecord s) (valueIn row)
 -- ---- the inputs of a table, kind 1
 
 -- the kind of each of the eight inputs: 12
-unfoldable pub kinds : List ℕ → ℕ → Answered (List ℕ)
+abbrev pub kinds : List ℕ → ℕ → Answered (List ℕ)
 kinds s room = andThen (tableRead s) (λ t. fitted room (kindBytes (kindsOf t)))
 
 -- Chow's parameters of the eight inputs: 12
-unfoldable pub chow : List ℕ → ℕ → Answered (List ℕ)
+abbrev pub chow : List ℕ → ℕ → Answered (List ℕ)
 chow s room = andThen (tableRead s) (λ t. fitted room (chowBytes (chowOf t)))
+
+-- ---- for the inside alone: what the three calls on a table write of it
+
+abbrev pub askedOf : Asked → ℕ → Table → Answered (List ℕ)
+askedOf Asked′.Outcome room t = outcomeWritten room (run callBudget (fresh t))
+askedOf Asked′.Kinds room t = fitted room (kindBytes (kindsOf t))
+askedOf Asked′.Chow room t = fitted room (chowBytes (chowOf t))

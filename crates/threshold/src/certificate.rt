@@ -1,4 +1,5 @@
 // A record looked at: its kind, whether its gate or witness holds, and the value of its table or gate on a row.
+use crate::result::not_taken;
 use crate::result::refusal;
 use crate::result::yes_or_no;
 use cell::checker::check_gate;
@@ -20,11 +21,9 @@ pub extern "C" fn threshold_check(bytes: &[u8]) -> i64
     let given = read(bytes);
     let kind = given.kind;
     match kind {
-        Kind::Table => refusal(5),
         Kind::Gate => yes_or_no(check_gate(given.table, given.gate)),
         Kind::Witness => yes_or_no(check_witness(given.table, given.witness)),
-        Kind::Job => refusal(5),
-        Kind::Refused(number) => refusal(number),
+        Kind::Table | Kind::Job | Kind::Refused(_) => not_taken(kind),
     }
 }
 
@@ -55,8 +54,6 @@ pub extern "C" fn threshold_value(bytes: &[u8], row: u32) -> i64
     match kind {
         Kind::Table => yes_or_no(table_value(given.table, row as usize)),
         Kind::Gate => yes_or_no(gate_value(given.gate, row as usize)),
-        Kind::Witness => refusal(5),
-        Kind::Job => refusal(5),
-        Kind::Refused(number) => refusal(number),
+        Kind::Witness | Kind::Job | Kind::Refused(_) => not_taken(kind),
     }
 }

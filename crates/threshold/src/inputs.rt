@@ -1,21 +1,14 @@
 // The kinds and Chow's parameters of a table's inputs, as bytes.
-use crate::result::not_taken;
 use crate::result::refusal;
-use records::read::Kind;
-use records::reader::read;
-use table::chow::all_chow;
 use table::inputs::InputKind;
 use table::inputs::Place;
-use table::inputs::all_kinds;
 use writing::length::signed_code;
 ghost use mathlib.Core.Path.{_≡_};
-ghost use Prim.Native.Nat.{_≤_, _<_};
+ghost use Prim.Native.Nat.{_<_};
 ghost use lib.ListN.{length, getD};
-ghost use Rattle.codec.specs.Field.{writtenAt};
 ghost use Rattle.records.specs.Calls.{lent};
-ghost use Rattle.threshold.specs.Result.{asResult, measured};
+ghost use Rattle.threshold.specs.Result.{asResult, measured, fitted};
 ghost use Rattle.threshold.specs.Inputs.{kindByte, kindBytes, word, chowBytes};
-ghost use Rattle.threshold.specs.Interface.{kinds, chow};
 
 // Returns the byte of a kind: 0 idle, 1 rising, 2 falling, 3 binate.
 fn kind_byte(kind: InputKind) -> u8
@@ -29,11 +22,13 @@ fn kind_byte(kind: InputKind) -> u8
     }
 }
 
-// Writes the bytes of eight kinds at the start of a buffer with room for them.
-fn put_kinds(out: &mut [u8], places: [Place; 8])
-    requires { ⌜ 8 ≤ length (now out) ⌝ }
-    ensures { λ _. ⌜ now (out .exit) ≡ writtenAt (now (out .entry)) 0 (kindBytes places) ⌝ }
+// Writes the bytes of eight kinds. Returns 8, or the refusal: 12.
+pub fn put_kinds(places: [Place; 8], out: &mut [u8]) -> i64
+    ensures { λ r. ⌜ (r ≡ asResult (measured (fitted (length (now (out .entry))) (kindBytes places)))) × (now (out .exit) ≡ lent (now (out .entry)) (fitted (length (now (out .entry))) (kindBytes places))) ⌝ }
 {
+    if out.len() < 8 {
+        return refusal(12);
+    }
     let mut place: usize = 0;
     while place < 8 {
         let here = places[place];
@@ -41,24 +36,6 @@ fn put_kinds(out: &mut [u8], places: [Place; 8])
         out[place] = kind_byte(kind);
         place = place + 1;
     }
-}
-
-// Writes the kind of each input of a kind 1 record's table, a byte each: 0 idle, 1 rising, 2 falling, 3 binate; past n idle. Returns 8.
-// Refusals: 1 to 9 as the record is read, 5 for another kind, 12.
-#[no_mangle]
-pub extern "C" fn threshold_kinds(bytes: &[u8], out: &mut [u8]) -> i64
-    ensures { λ r. ⌜ (r ≡ asResult (measured (kinds (now (bytes .entry)) (length (now (out .entry)))))) × (now (out .exit) ≡ lent (now (out .entry)) (kinds (now (bytes .entry)) (length (now (out .entry))))) ⌝ }
-{
-    let given = read(bytes);
-    let kind = given.kind;
-    let Kind::Table = kind else {
-        return not_taken(kind);
-    };
-    if out.len() < 8 {
-        return refusal(12);
-    }
-    let table = given.table;
-    put_kinds(out, all_kinds(table));
     8
 }
 
@@ -84,33 +61,17 @@ fn chow_byte(q: [i32; 8], at: usize) -> u8
     }
 }
 
-// Writes the bytes of eight q at the start of a buffer with room for them.
-fn put_chow(out: &mut [u8], q: [i32; 8])
-    requires { ⌜ 16 ≤ length (now out) ⌝ }
-    ensures { λ _. ⌜ now (out .exit) ≡ writtenAt (now (out .entry)) 0 (chowBytes q) ⌝ }
+// Writes the bytes of eight q. Returns 16, or the refusal: 12.
+pub fn put_chow(q: [i32; 8], out: &mut [u8]) -> i64
+    ensures { λ r. ⌜ (r ≡ asResult (measured (fitted (length (now (out .entry))) (chowBytes q)))) × (now (out .exit) ≡ lent (now (out .entry)) (fitted (length (now (out .entry))) (chowBytes q))) ⌝ }
 {
+    if out.len() < 16 {
+        return refusal(12);
+    }
     let mut at: usize = 0;
     while at < 16 {
         out[at] = chow_byte(q, at);
         at = at + 1;
     }
-}
-
-// Writes Chow's parameter q of each input of a kind 1 record's table as a signed number of two bytes, low byte first; past n 0. Returns 16.
-// Refusals: 1 to 9 as the record is read, 5 for another kind, 12.
-#[no_mangle]
-pub extern "C" fn threshold_chow(bytes: &[u8], out: &mut [u8]) -> i64
-    ensures { λ r. ⌜ (r ≡ asResult (measured (chow (now (bytes .entry)) (length (now (out .entry)))))) × (now (out .exit) ≡ lent (now (out .entry)) (chow (now (bytes .entry)) (length (now (out .entry))))) ⌝ }
-{
-    let given = read(bytes);
-    let kind = given.kind;
-    let Kind::Table = kind else {
-        return not_taken(kind);
-    };
-    if out.len() < 16 {
-        return refusal(12);
-    }
-    let table = given.table;
-    put_chow(out, all_chow(table));
     16
 }

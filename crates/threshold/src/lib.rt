@@ -1,7 +1,8 @@
 // The C interface: seven calls on records as bytes and on numbers. Each returns what it gives, 0 or above, or the negative of document 01's
 // number of the refusal; a lent buffer is changed in the bytes of the answer alone.
 mod certificate;
-mod decide;
 mod inputs;
+mod jobs;
 mod outcome;
 mod result;
+mod tables;

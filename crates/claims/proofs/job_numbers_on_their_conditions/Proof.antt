@@ -3,7 +3,8 @@ use mathlib.Core.List.{[], _∷_}
 use Rattle.machine.specs.Failing.{fails}
 use Rattle.cell.specs.Calls.{tableRules, pastRows}
 use Rattle.job.specs.Machine.{run, fresh}
-use Rattle.job.specs.Calls.{callBudget, jobRules, shownIn}
+use Rattle.job.specs.Calls.{callBudget, jobRules}
+use Rattle.view.specs.Calls.{shownIn}
 use Rattle.claims.proofs.Rules.{by-rules}
 use Rattle.claims.proofs.CarryOn.{carry-on-open, carry-on-ended}
 use Rattle.claims.proofs.job_numbers_on_their_conditions.Statement.{statement}

@@ -3,9 +3,10 @@ use mathlib.Core.Path.{_≡_, sym, _∙_, ap}
 use mathlib.Core.Option.{Option, some}
 use Prim.Native.Nat.{ℕ}
 use Rattle.machine.proofs.BinateLaws.{binate-place-lt}
+use Rattle.table.specs.Witness.{sameCounts}
 use Rattle.table.proofs.InputLaws.{found-some, found-none}
 use Rattle.machine.specs.Binate.{binatePlace}
-use Rattle.job.specs.Sound.{sameCounts, isBinateWith}
+use Rattle.job.specs.Sound.{isBinateWith}
 use borrow.Author.Needs.{needs}
 use Rattle.job.proofs.sound.has_binate_counts.Statement.{statement}
 use Rattle.job.proofs.sound.has_binate_counts.Tie as tie

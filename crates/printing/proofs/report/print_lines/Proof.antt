@@ -8,6 +8,7 @@ use lib.ListN.{length}
 use lib.Seq.{length-take-le}
 use borrow.Rule.Slice.PartMut.{mid-len, same-len-mid}
 use borrow.Author.Needs.{needs}
+use Rattle.reporting.specs.Lines.{lineRoom}
 use Rattle.reporting.specs.Report.{Bounded}
 use Rattle.reporting.proofs.ReportLaws.{bounded-start}
 use Rattle.printing.proofs.report.print_lines.Statement.{statement}
@@ -50,7 +51,7 @@ write-all-requires : tie.Need-write-all-requires Inv-loop μ-loop
 write-all-requires c κs = search needs
 
 -- before a line is made, there is room for it
-room : (c : tie.Joined2 Inv-loop μ-loop) → c .if2 .used + 4096 ≤ 65536
+room : (c : tie.Joined2 Inv-loop μ-loop) → c .if2 .used + lineRoom ≤ 65536
 room c = ⊎-elim (λ w. omega (arith, w)) (λ w. omega (arith, w)) (c .if2 .came)
 
 sub-next-line : tie.Need-sub-next-line Inv-loop μ-loop

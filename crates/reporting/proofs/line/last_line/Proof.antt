@@ -1,15 +1,13 @@
 -- `line::last_line` meets its contract: the records, the numbers of G, N and S, the mean and a line feed are written one behind the other.
 -- Assumes nothing.
-use mathlib.Core.Path.{_∙_, ap}
 use mathlib.Core.List.{List, [], _∷_, _++_}
-use Prim.Native.Nat.{ℕ, _+_, _<_}
+use Prim.Native.Nat.{ℕ}
 use native.Mathlib.Omega.{arith}
-use lib.ListN.{length, set}
 use denote.Ref.{now}
-use Rattle.codec.proofs.WrittenLaws.{Written, written-length}
+use borrow.Author.Needs.{needs}
 use Rattle.reporting.specs.Text.{decimal, spaced, lineFeed}
 use Rattle.reporting.specs.Lines.{meanText, lastLine}
-use Rattle.reporting.proofs.LineWriting.{Left, all-left, next-room, next-left, stored-byte}
+use Rattle.reporting.proofs.LineWriting.{Left, all-left, next-room, next-left, line-done}
 use Rattle.reporting.proofs.line.last_line.Statement.{statement}
 use Rattle.reporting.proofs.line.last_line.Tie as tie
 
@@ -95,55 +93,36 @@ start-of3 c = start-of2 (c .before .before .before .before)
 at-space : (c : tie.After-put-number3) → LineLeft (start-of3 c) (c .put-number3 .last .0) (c .put-number3 .result) (from-space (start-of3 c))
 at-space c = next-left (opens (start-of3 c)) (from-space (start-of3 c)) (at-opens (c .before .before .before .before)) (c .put-number3 .ensures)
 
-space-inside : (c : tie.After-put-number3) → c .put-number3 .result < length (c .put-number3 .last .0)
-space-inside c = omega (arith, at-space c .room)
+put-byte-requires : tie.Need-put-byte-requires
+put-byte-requires c κs =
+    let put = c .before .before .before in
+    next-room space (mean (start-of3 put) ++ lineFeed) (at-space put)
 
-slice-write-out : tie.Need-slice-write-out
-slice-write-out c = space-inside (c .before .before)
+abbrev start-of4 : tie.After-put-byte → tie.Start
+start-of4 c = start-of3 (c .before .before .before .before)
 
-add-put-mean : tie.Need-add-put-mean
-add-put-mean c = omega (arith, space-inside (c .before .before .before))
-
-at-mean : (c : tie.After-put-number3) → LineLeft (start-of3 c) (set (c .put-number3 .last .0) (c .put-number3 .result) 32) (c .put-number3 .result + 1) (mean (start-of3 c) ++ lineFeed)
-at-mean c =
-    next-left space (mean (start-of3 c) ++ lineFeed) (at-space c) (stored-byte (c .put-number3 .last .0) (c .put-number3 .result) 32 (space-inside c))
+at-mean : (c : tie.After-put-byte) → LineLeft (start-of4 c) (c .put-byte .last .0) (c .put-byte .result) (mean (start-of4 c) ++ lineFeed)
+at-mean c = next-left space (mean (start-of4 c) ++ lineFeed) (at-space (c .before .before .before .before)) (c .put-byte .ensures)
 
 put-mean-requires : tie.Need-put-mean-requires
 put-mean-requires c κs =
     let put = c .before .before .before in
-    let s = start-of3 put in
+    let s = start-of4 put in
     (s .pre .0, s .pre .1, next-room (mean s) lineFeed (at-mean put))
 
-at-end : (c : tie.After-put-mean) → LineLeft (start-of3 (c .before .before .before .before)) (c .put-mean .last .0) (c .put-mean .result) lineFeed
+at-end : (c : tie.After-put-mean) → LineLeft (start-of4 (c .before .before .before .before)) (c .put-mean .last .0) (c .put-mean .result) lineFeed
 at-end c =
     let put = c .before .before .before .before in
-    next-left (mean (start-of3 put)) lineFeed (at-mean put) (c .put-mean .ensures)
+    next-left (mean (start-of4 put)) lineFeed (at-mean put) (c .put-mean .ensures)
 
-end-inside : (c : tie.After-put-mean) → c .put-mean .result < length (c .put-mean .last .0)
-end-inside c = omega (arith, at-end c .room)
-
-slice-write-out-2 : tie.Need-slice-write-out-2
-slice-write-out-2 c = end-inside (c .before .before)
-
--- the line, with its line feed
-line : (c : tie.After-put-mean)
-    → (let s = start-of3 (c .before .before .before .before) in
-    Written (now (s .args .out)) 0 (lastLine (s .args .tally)) (set (c .put-mean .last .0) (c .put-mean .result) 10) (c .put-mean .result + 1))
-line c = at-end c .done (stored-byte (c .put-mean .last .0) (c .put-mean .result) 10 (end-inside c))
-
-add-result : tie.Need-add-result
-add-result c =
-    let put = c .before .before in
-    let s = start-of3 (put .before .before .before .before) in
-    omega (arith, line put .0, s .pre .2, s .good .0 .0)
+put-byte-requires-2 : tie.Need-put-byte-requires-2
+put-byte-requires-2 c κs = at-end (c .before .before .before) .room
 
 returns : tie.Need-returns
-returns c = (omega (arith, line (c .before .before) .0), line (c .before .before) .1)
+returns c = let end = c .before .before in line-done (at-end (end .before .before .before .before)) (end .put-byte2 .ensures)
 
 same-length : tie.Need-same-length
-same-length c =
-    let s = start-of3 (c .before .before .before .before .before .before) in
-    ap length (returns c .1) ∙ written-length (now (s .args .out)) 0 (lastLine (s .args .tally)) (omega (arith, s .pre .2))
+same-length c = search needs
 
 pub last-line-spec : {M : Type 1} → statement M
 last-line-spec =
@@ -153,10 +132,8 @@ last-line-spec =
     put-number-requires
     put-number-requires-2
     put-number-requires-3
-    slice-write-out
-    add-put-mean
+    put-byte-requires
     put-mean-requires
-    slice-write-out-2
-    add-result
+    put-byte-requires-2
     same-length
     returns)

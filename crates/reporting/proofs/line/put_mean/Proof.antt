@@ -1,34 +1,29 @@
 -- `line::put_mean` meets its contract: the whole part, a point and the tenths are written one behind the other, or a dash. Assumes nothing.
-use mathlib.Core.Path.{_≡_, refl, _∙_, ap}
+use mathlib.Core.Path.{_≡_, refl, ap}
 use mathlib.Core.List.{List, [], _∷_, _++_}
-use Prim.Native.Nat.{ℕ, zero, suc, _+_, _/_, _%_, _<_}
+use Prim.Native.Nat.{ℕ, zero, suc, _/_, _%_, _<_}
 use native.Mathlib.Omega.{arith}
-use lib.ListN.{length, set}
+use lib.ListN.{length}
 use denote.Ref.{now}
 use borrow.Author.Needs.{needs}
-use Rattle.codec.proofs.WrittenLaws.{written-length}
 use Rattle.reporting.specs.Text.{decimal}
 use Rattle.reporting.specs.Lines.{meanTenths, meanText}
-use Rattle.reporting.proofs.LineWriting.{Left, all-left, next-room, next-left, stored-byte}
+use Rattle.reporting.proofs.LineWriting.{Left, all-left, next-room, next-left}
 use Rattle.reporting.proofs.line.put_mean.Statement.{statement}
 use Rattle.reporting.proofs.line.put_mean.Tie as tie
 
 -- ---- no gates
 
-inside : (c : tie.Then1) → c .before .before .args .at < length (now (c .before .before .args .out))
-inside c = let s = c .before .before in omega (arith, s .pre .2, ap (λ (gates : ℕ). length (meanText gates (s .args .sum))) (c .if1 .taken))
-
-slice-write-out : tie.Need-slice-write-out
-slice-write-out c = inside c
-
-add-result : tie.Need-add-result
-add-result c = search needs
+put-byte-requires : tie.Need-put-byte-requires
+put-byte-requires c κs =
+    let s = c .before .before .before in
+    omega (arith, s .pre .2, ap (λ (gates : ℕ). length (meanText gates (s .args .sum))) (c .before .if1 .taken))
 
 same-length : tie.Need-same-length
 same-length c = search needs
 
 returns : tie.Need-returns
-returns c = let a = c .before .before .args in rw (c .if1 .taken) (stored-byte (now (a .out)) (a .at) 45 (inside c))
+returns c = let put = c .before .before in rw (put .before .before .if1 .taken) (put .put-byte .ensures)
 
 -- ---- a mean
 
@@ -78,20 +73,16 @@ at-point c =
     let s = c .before .before .before .before in
     next-left (whole s) (point ++ tenths s) (at-whole (c .before .before)) (c .put-decimal .ensures)
 
-point-inside : (c : tie.After-put-decimal) → c .put-decimal .result < length (c .put-decimal .last .0)
-point-inside c = omega (arith, at-point c .room)
+put-byte-requires-2 : tie.Need-put-byte-requires-2
+put-byte-requires-2 c κs =
+    let put = c .before .before .before in
+    next-room point (tenths (put .before .before .before .before)) (at-point put)
 
-slice-write-out-2 : tie.Need-slice-write-out-2
-slice-write-out-2 c = point-inside (c .before .before)
+abbrev start-of : tie.After-put-byte2 → tie.Start
+start-of c = c .before .before .before .before .before .before .before .before
 
-add-put-decimal : tie.Need-add-put-decimal
-add-put-decimal c = omega (arith, point-inside (c .before .before .before))
-
-at-tenths : (c : tie.After-put-decimal)
-    → MeanLeft (c .before .before .before .before) (set (c .put-decimal .last .0) (c .put-decimal .result) 46) (c .put-decimal .result + 1) (tenths (c .before .before .before .before))
-at-tenths c =
-    let s = c .before .before .before .before in
-    next-left point (tenths s) (at-point c) (stored-byte (c .put-decimal .last .0) (c .put-decimal .result) 46 (point-inside c))
+at-tenths : (c : tie.After-put-byte2) → MeanLeft (start-of c) (c .put-byte2 .last .0) (c .put-byte2 .result) (tenths (start-of c))
+at-tenths c = next-left point (tenths (start-of c)) (at-point (c .before .before .before .before)) (c .put-byte2 .ensures)
 
 put-decimal-requires-2 : tie.Need-put-decimal-requires-2
 put-decimal-requires-2 c κs = at-tenths (c .before .before .before) .room
@@ -102,16 +93,13 @@ returns-2 c =
     at-tenths (put .before .before .before .before) .done (put .put-decimal2 .ensures)
 
 same-length-2 : tie.Need-same-length-2
-same-length-2 c =
-    let s = c .before .before .before .before .before .before .before .before .before .before in
-    ap length (returns-2 c .1) ∙ written-length (now (s .args .out)) (s .args .at) (meanText (s .args .gates) (s .args .sum)) (s .pre .2)
+same-length-2 c = search needs
 
 pub put-mean-spec : {M : Type 1} → statement M
 put-mean-spec =
     tie.close
     (tie.spec
-    slice-write-out
-    add-result
+    put-byte-requires
     same-length
     returns
     mul-tenths
@@ -119,8 +107,7 @@ put-mean-spec =
     mul-tenths-2
     div-tenths
     put-decimal-requires
-    slice-write-out-2
-    add-put-decimal
+    put-byte-requires-2
     put-decimal-requires-2
     same-length-2
     returns-2)

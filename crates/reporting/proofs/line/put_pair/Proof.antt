@@ -1,15 +1,15 @@
 -- `line::put_pair` meets its contract: a pair is its row, a colon and its count, one behind the other, and nothing where the count is 0.
 -- Assumes nothing.
-use mathlib.Core.Path.{sym, _∙_, ap}
+use mathlib.Core.Path.{sym}
 use mathlib.Core.List.{List, [], _∷_, _++_}
-use Prim.Native.Nat.{ℕ, _+_, _<_}
+use Prim.Native.Nat.{ℕ}
 use native.Mathlib.Omega.{arith}
-use lib.ListN.{length, set}
 use denote.Ref.{now}
-use Rattle.codec.proofs.WrittenLaws.{written-nil, written-length}
+use borrow.Author.Needs.{needs}
+use Rattle.codec.proofs.WrittenLaws.{written-nil}
 use Rattle.reporting.specs.Text.{decimal, spaced}
 use Rattle.reporting.specs.Lines.{pairText}
-use Rattle.reporting.proofs.LineWriting.{Left, all-left, next-room, next-left, stored-byte}
+use Rattle.reporting.proofs.LineWriting.{Left, all-left, next-room, next-left}
 use Rattle.reporting.proofs.PairTextLaws.{pair-text}
 use Rattle.reporting.proofs.line.put_pair.Statement.{statement}
 use Rattle.reporting.proofs.line.put_pair.Tie as tie
@@ -36,24 +36,20 @@ at-row c =
     let a = c .before .before .args in
     rw (← pair-text (a .row) (a .count) (omega arith)) (all-left (now (a .out)) (a .at) (pairText (a .row) (a .count)) (c .before .before .pre))
 
-at-colon : (c : tie.After-put-number) → PairLeft (c .before .before) (c .put-number .last .0) (c .put-number .result) ((58 ∷ []) ++ count-text (c .before .before))
-at-colon c = let branch = c .before .before in next-left (row-text branch) (58 ∷ count-text branch) (at-row branch) (c .put-number .ensures)
-
-colon-inside : (c : tie.After-put-number) → c .put-number .result < length (c .put-number .last .0)
-colon-inside c = omega (arith, next-room (58 ∷ []) (count-text (c .before .before)) (at-colon c))
-
-at-count : (c : tie.After-put-number)
-    → PairLeft (c .before .before) (set (c .put-number .last .0) (c .put-number .result) 58) (c .put-number .result + 1) (count-text (c .before .before))
-at-count c = next-left (58 ∷ []) (count-text (c .before .before)) (at-colon c) (stored-byte (c .put-number .last .0) (c .put-number .result) 58 (colon-inside c))
-
 put-number-requires : tie.Need-put-number-requires
 put-number-requires c κs = next-room (row-text (c .before)) (58 ∷ count-text (c .before)) (at-row (c .before))
 
-slice-write-out : tie.Need-slice-write-out
-slice-write-out c = omega (arith, colon-inside (c .before .before))
+at-colon : (c : tie.After-put-number) → PairLeft (c .before .before) (c .put-number .last .0) (c .put-number .result) ((58 ∷ []) ++ count-text (c .before .before))
+at-colon c = let branch = c .before .before in next-left (row-text branch) (58 ∷ count-text branch) (at-row branch) (c .put-number .ensures)
 
-add-put-decimal : tie.Need-add-put-decimal
-add-put-decimal c = omega (arith, colon-inside (c .before .before .before))
+put-byte-requires : tie.Need-put-byte-requires
+put-byte-requires c κs = let put = c .before .before .before in next-room (58 ∷ []) (count-text (put .before .before)) (at-colon put)
+
+abbrev branch-of : tie.After-put-byte → tie.Else1
+branch-of c = c .before .before .before .before .before .before
+
+at-count : (c : tie.After-put-byte) → PairLeft (branch-of c) (c .put-byte .last .0) (c .put-byte .result) (count-text (branch-of c))
+at-count c = next-left (58 ∷ []) (count-text (branch-of c)) (at-colon (c .before .before .before .before)) (c .put-byte .ensures)
 
 put-decimal-requires : tie.Need-put-decimal-requires
 put-decimal-requires c κs = at-count (c .before .before .before) .room
@@ -62,10 +58,7 @@ returns-2 : tie.Need-returns-2
 returns-2 c = at-count (c .before .before .before .before .before .before) .done (c .before .before .put-decimal .ensures)
 
 same-length : tie.Need-same-length
-same-length c =
-    let start = c .before .before .before .before .before .before .before .before .before .before in
-    let a = start .args in
-    ap length (returns-2 c .1) ∙ written-length (now (a .out)) (a .at) (pairText (a .row) (a .count)) (start .pre)
+same-length c = search needs
 
 pub put-pair-spec : {M : Type 1} → statement M
 put-pair-spec =
@@ -73,8 +66,7 @@ put-pair-spec =
     (tie.spec
     returns
     put-number-requires
-    slice-write-out
-    add-put-decimal
+    put-byte-requires
     put-decimal-requires
     same-length
     returns-2)

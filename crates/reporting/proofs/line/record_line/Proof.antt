@@ -1,15 +1,12 @@
 -- `line::record_line` meets its contract: the position, n, the verdict and a line feed are written one behind the other. Assumes nothing.
-use mathlib.Core.Path.{_∙_, ap}
 use mathlib.Core.List.{List, _++_}
-use Prim.Native.Nat.{ℕ, _<_}
+use Prim.Native.Nat.{ℕ}
 use native.Mathlib.Omega.{arith}
-use lib.ListN.{length}
 use denote.Ref.{now}
 use borrow.Author.Needs.{needs}
-use Rattle.codec.proofs.WrittenLaws.{written-length}
 use Rattle.reporting.specs.Text.{decimal, spaced, lineFeed}
 use Rattle.reporting.specs.Lines.{verdictText, recordLine}
-use Rattle.reporting.proofs.LineWriting.{Left, all-left, next-room, next-left, stored-byte}
+use Rattle.reporting.proofs.LineWriting.{Left, all-left, next-room, next-left, line-done}
 use Rattle.reporting.proofs.line.record_line.Statement.{statement}
 use Rattle.reporting.proofs.line.record_line.Tie as tie
 
@@ -67,25 +64,14 @@ at-end c =
     let number = c .before .before .before .before in
     next-left (verdict (start-of number)) lineFeed (at-verdict number) (c .put-verdict .ensures)
 
-end-inside : (c : tie.After-put-verdict) → c .put-verdict .result < length (c .put-verdict .last .0)
-end-inside c = omega (arith, at-end c .room)
-
-slice-write-out : tie.Need-slice-write-out
-slice-write-out c = end-inside (c .before .before)
-
-add-result : tie.Need-add-result
-add-result c = omega (arith, end-inside (c .before .before))
+put-byte-requires : tie.Need-put-byte-requires
+put-byte-requires c κs = at-end (c .before .before .before) .room
 
 returns : tie.Need-returns
-returns c =
-    let wrote = c .before .before in
-    let line = at-end wrote .done (stored-byte (wrote .put-verdict .last .0) (wrote .put-verdict .result) 10 (end-inside wrote)) in
-    (omega (arith, line .0), line .1)
+returns c = let end = c .before .before in line-done (at-end (end .before .before .before .before)) (end .put-byte .ensures)
 
 same-length : tie.Need-same-length
-same-length c =
-    let s = start-of (c .before .before .before .before .before .before) in
-    ap length (returns c .1) ∙ written-length (now (s .args .out)) 0 (recordLine (s .args .position) (s .args .job)) (omega (arith, s .pre .1))
+same-length c = search needs
 
 pub record-line-spec : {M : Type 1} → statement M
 record-line-spec =
@@ -95,7 +81,6 @@ record-line-spec =
     cast-put-number
     put-number-requires
     put-verdict-requires
-    slice-write-out
-    add-result
+    put-byte-requires
     same-length
     returns)

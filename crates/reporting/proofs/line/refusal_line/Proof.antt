@@ -1,14 +1,12 @@
 -- `line::refusal_line` meets its contract: the position, R, the number and a line feed are written one behind the other. Assumes nothing.
-use mathlib.Core.Path.{_∙_, ap}
 use mathlib.Core.List.{List, [], _∷_, _++_}
-use Prim.Native.Nat.{ℕ, _+_, _<_}
+use Prim.Native.Nat.{ℕ}
 use native.Mathlib.Omega.{arith}
-use lib.ListN.{length}
 use denote.Ref.{now}
-use Rattle.codec.proofs.WrittenLaws.{written-length}
+use borrow.Author.Needs.{needs}
 use Rattle.reporting.specs.Text.{decimal, spaced, lineFeed}
 use Rattle.reporting.specs.Lines.{refusalLine}
-use Rattle.reporting.proofs.LineWriting.{Left, all-left, next-room, next-left, stored-byte}
+use Rattle.reporting.proofs.LineWriting.{Left, all-left, next-room, next-left, line-done}
 use Rattle.reporting.proofs.line.refusal_line.Statement.{statement}
 use Rattle.reporting.proofs.line.refusal_line.Tie as tie
 
@@ -60,25 +58,14 @@ at-end c =
     let put = c .before .before .before .before in
     next-left (number-text (start-of put)) lineFeed (at-number put) (c .put-number .ensures)
 
-end-inside : (c : tie.After-put-number) → c .put-number .result < length (c .put-number .last .0)
-end-inside c = omega (arith, at-end c .room)
-
-slice-write-out : tie.Need-slice-write-out
-slice-write-out c = end-inside (c .before .before)
-
-add-result : tie.Need-add-result
-add-result c = omega (arith, end-inside (c .before .before))
+put-byte-requires : tie.Need-put-byte-requires
+put-byte-requires c κs = at-end (c .before .before .before) .room
 
 returns : tie.Need-returns
-returns c =
-    let put = c .before .before in
-    let line = at-end put .done (stored-byte (put .put-number .last .0) (put .put-number .result) 10 (end-inside put)) in
-    (omega (arith, line .0), line .1)
+returns c = let end = c .before .before in line-done (at-end (end .before .before .before .before)) (end .put-byte .ensures)
 
 same-length : tie.Need-same-length
-same-length c =
-    let s = start-of (c .before .before .before .before .before .before) in
-    ap length (returns c .1) ∙ written-length (now (s .args .out)) 0 (refusalLine (s .args .position) (s .args .number)) (omega (arith, s .pre))
+same-length c = search needs
 
 pub refusal-line-spec : {M : Type 1} → statement M
 refusal-line-spec =
@@ -87,7 +74,6 @@ refusal-line-spec =
     put-decimal-requires
     put-letter-requires
     put-number-requires
-    slice-write-out
-    add-result
+    put-byte-requires
     same-length
     returns)

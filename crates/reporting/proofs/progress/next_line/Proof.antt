@@ -6,6 +6,7 @@ use native.Mathlib.Omega.{arith}
 use denote.Ref.{now}
 use borrow.Author.Needs.{needs}
 use Rattle.reporting.specs.declared.progress.Progress.{Progress}
+use Rattle.reporting.specs.Lines.{lineRoom}
 use Rattle.reporting.specs.Report.{Advance, Bounded, advance}
 use Rattle.reporting.proofs.AdvanceLaws.{Made, at-record, at-end, at-last, at-done, made-by, made-bounded}
 use Rattle.reporting.proofs.progress.next_line.Statement.{statement}
@@ -13,8 +14,8 @@ use Rattle.reporting.proofs.progress.next_line.Tie as tie
 
 -- a line that was made in a case is the next one
 made : (start : tie.Start) (a : Advance) (n : ℕ) (next : Progress) (new : List ℕ) → a ≡ advance (now (start .args .input)) (start .args .progress)
-    → Made a (now (start .args .out)) n next new → n ≤ 4096
-    → Made (advance (now (start .args .input)) (start .args .progress)) (now (start .args .out)) n next new × (Bounded next × (n ≤ 4096))
+    → Made a (now (start .args .out)) n next new → n ≤ lineRoom
+    → Made (advance (now (start .args .input)) (start .args .progress)) (now (start .args .out)) n next new × (Bounded next × (n ≤ lineRoom))
 made start a n next new e given fits =
     let s = now (start .args .input) in
     let line = made-by (now (start .args .out)) e given in

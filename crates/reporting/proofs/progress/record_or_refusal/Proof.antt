@@ -7,15 +7,15 @@ use mir.Syntax.{w32}
 use mir.Val.{Fits}
 use denote.Ref.{now}
 use borrow.Author.Needs.{needs}
+use Rattle.numbers.proofs.Widths.{signed-fits-field}
 use Rattle.cell.specs.Refusal.{answered}
 use Rattle.cell.proofs.TableChecked.{kept-inputs}
-use Rattle.job.proofs.SoundTest.{signed-fits-field}
 use Rattle.codec.specs.Field.{Field, field}
 use Rattle.codec.specs.Head.{Head, headAt}
 use Rattle.codec.proofs.HeadLaws.{head-taken}
 use Rattle.reading.specs.declared.head.HeadField.{HeadField}
 use Rattle.reading.proofs.FieldFacts.{head-refused, head-done}
-use Rattle.reporting.specs.Lines.{recordLine}
+use Rattle.reporting.specs.Lines.{lineRoom, recordLine}
 use Rattle.reporting.specs.Report.{decided, advanceBy}
 use Rattle.reporting.proofs.AdvanceLaws.{made-by, record-made}
 use Rattle.reporting.proofs.DecidedLaws.{decided-run, decided-table}
@@ -98,7 +98,7 @@ job-inputs : (c : tie.After-decided-by) → c .decided-by .result .table .n ≤ 
 job-inputs c = rw (is-decided c, decided-table (head-of (c .before) .table)) (few-inputs (c .before))
 
 -- so its line has room
-line-room : (c : tie.After-decided-by) → length (recordLine (start-of (c .before) .args .tally .records + 1) (c .decided-by .result)) ≤ 4096
+line-room : (c : tie.After-decided-by) → length (recordLine (start-of (c .before) .args .tally .records + 1) (c .decided-by .result)) ≤ lineRoom
 line-room c =
     let start = start-of (c .before) in
     record-room (c .decided-by .result) (held c) (start .args .tally .records + 1) (omega (arith, start .pre .0)) (job-inputs c)

@@ -1,18 +1,16 @@
 -- `certificate::threshold_check` meets its contract, by what was read: the checker's answer as a number. Assumes nothing.
-use mathlib.Core.Path.{_≡_, sym, _∙_, ap}
+use mathlib.Core.Path.{_≡_, _∙_, ap}
 use mathlib.Core.List.{List}
 use Prim.Native.Nat.{ℕ}
 use mir.Syntax.{w64}
 use borrow.Author.Needs.{needs}
 use Rattle.numbers.proofs.Int.{back}
-use Rattle.cell.specs.Refusal.{Answered}
 use Rattle.cell.specs.Calls.{checkGate, checkWitness}
 use Rattle.records.specs.declared.read.Kind.{Kind}
-use Rattle.records.specs.Record.{Record}
 use Rattle.threshold.specs.Result.{andThen, asResult}
 use Rattle.threshold.specs.Interface.{checkIn, check}
 use Rattle.threshold.proofs.ResultLaws.{answer-result}
-use Rattle.threshold.proofs.TakenLaws.{recordOf, read-as}
+use Rattle.threshold.proofs.TakenLaws.{recordOf, taken, no-certificate}
 use Rattle.threshold.proofs.certificate.threshold_check.Statement.{statement}
 use Rattle.threshold.proofs.certificate.threshold_check.Tie as tie
 
@@ -26,23 +24,12 @@ module _ (c : tie.After-read) where
   -- what the call comes to on a record of the kind that was read
   known : {k : Kind} → c .read .result .kind ≡ k → asResult (andThen (recordOf k (c .read .result)) checkIn) ≡ asResult (check bytes)
   unfolding check
-  known e = ap (λ (a : Answered Record). asResult (andThen a checkIn)) (sym (read-as bytes (c .read .ensures) e))
-
-enum-told : tie.Need-enum-told
-enum-told c = search needs
-
-refusal-requires : tie.Need-refusal-requires
-refusal-requires c κs = search needs
-
-returns : tie.Need-returns
-returns c =
-    let told = c .before in
-    back w64 (c .refusal .ok) ∙ c .refusal .ensures ∙ known (told .before .before) (told .enum-told .given .1)
+  known e = ap asResult (taken bytes (c .read .ensures) checkIn e)
 
 -- ---- a gate
 
-enum-told-2 : tie.Need-enum-told-2
-enum-told-2 c = search needs
+enum-told : tie.Need-enum-told
+enum-told c = search needs
 
 check-gate-requires : tie.Need-check-gate-requires
 check-gate-requires c κs = search needs
@@ -50,17 +37,17 @@ check-gate-requires c κs = search needs
 yes-or-no-requires : tie.Need-yes-or-no-requires
 yes-or-no-requires c κs = search needs
 
-returns-2 : tie.Need-returns-2
-returns-2 c =
+returns : tie.Need-returns
+returns c =
     let told = c .before .before in
     let r = told .before .before .read .result in
     let said = answer-result (checkGate (r .table) (r .gate)) (c .yes-or-no .ensures) (c .before .check-gate .ensures) in
-    back w64 (c .yes-or-no .ok) ∙ said ∙ known (told .before .before) (told .enum-told2 .given .1)
+    back w64 (c .yes-or-no .ok) ∙ said ∙ known (told .before .before) (told .enum-told .given .1)
 
 -- ---- a witness
 
-enum-told-3 : tie.Need-enum-told-3
-enum-told-3 c = search needs
+enum-told-2 : tie.Need-enum-told-2
+enum-told-2 c = search needs
 
 check-witness-requires : tie.Need-check-witness-requires
 check-witness-requires c κs = search needs
@@ -68,36 +55,24 @@ check-witness-requires c κs = search needs
 yes-or-no-requires-2 : tie.Need-yes-or-no-requires-2
 yes-or-no-requires-2 c κs = search needs
 
-returns-3 : tie.Need-returns-3
-returns-3 c =
+returns-2 : tie.Need-returns-2
+returns-2 c =
     let told = c .before .before in
     let r = told .before .before .read .result in
     let said = answer-result (checkWitness (r .table) (r .witness)) (c .yes-or-no2 .ensures) (c .before .check-witness .ensures) in
-    back w64 (c .yes-or-no2 .ok) ∙ said ∙ known (told .before .before) (told .enum-told3 .given .1)
+    back w64 (c .yes-or-no2 .ok) ∙ said ∙ known (told .before .before) (told .enum-told2 .given .1)
 
--- ---- a job, or a refusal
+-- ---- another kind, or a refusal
 
-enum-told-4 : tie.Need-enum-told-4
-enum-told-4 c = search needs
+not-taken-requires : tie.Need-not-taken-requires
+not-taken-requires c κs = search needs
 
-refusal-requires-2 : tie.Need-refusal-requires-2
-refusal-requires-2 c κs = search needs
-
-returns-4 : tie.Need-returns-4
-returns-4 c =
-    let told = c .before in
-    back w64 (c .refusal2 .ok) ∙ c .refusal2 .ensures ∙ known (told .before .before) (told .enum-told4 .given .1)
-
-enum-known-kind : tie.Need-enum-known-kind
-enum-known-kind c = search needs
-
-refusal-requires-3 : tie.Need-refusal-requires-3
-refusal-requires-3 c κs = search needs
-
-returns-5 : tie.Need-returns-5
-returns-5 c =
-    let at = c .before .before in
-    back w64 (c .refusal3 .ok) ∙ c .refusal3 .ensures ∙ known (at .before .before) (at .kind .given .1)
+returns-3 : tie.Need-returns-3
+unfolding check
+returns-3 c =
+    let keys = c .before in
+    let other = no-certificate (bytes (keys .before)) (keys .before .read .ensures) (keys .match .keys3) in
+    back w64 (c .not-taken .ok) ∙ c .not-taken .ensures ∙ ap asResult other
 
 pub threshold-check-spec : {M : Type 1} → statement M
 threshold-check-spec =
@@ -105,19 +80,12 @@ threshold-check-spec =
     (tie.spec
     read-requires
     enum-told
-    refusal-requires
-    enum-told-2
     check-gate-requires
     yes-or-no-requires
-    enum-told-3
+    enum-told-2
     check-witness-requires
     yes-or-no-requires-2
-    enum-told-4
-    refusal-requires-2
-    enum-known-kind
-    refusal-requires-3
+    not-taken-requires
     returns
     returns-2
-    returns-3
-    returns-4
-    returns-5)
+    returns-3)

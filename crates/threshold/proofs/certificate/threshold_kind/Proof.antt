@@ -1,16 +1,15 @@
 -- `certificate::threshold_kind` meets its contract, by what was read. Assumes nothing.
-use mathlib.Core.Path.{_≡_, sym, _∙_, ap}
+use mathlib.Core.Path.{_≡_, _∙_, ap}
 use mathlib.Core.List.{List}
 use Prim.Native.Nat.{ℕ}
 use mir.Syntax.{w64}
 use borrow.Author.Needs.{needs}
 use Rattle.numbers.proofs.Int.{back}
-use Rattle.cell.specs.Refusal.{Answered, answered}
+use Rattle.cell.specs.Refusal.{answered}
 use Rattle.records.specs.declared.read.Kind.{Kind}
-use Rattle.records.specs.Record.{Record}
 use Rattle.threshold.specs.Result.{andThen, asResult}
 use Rattle.threshold.specs.Interface.{kindOf, kind}
-use Rattle.threshold.proofs.TakenLaws.{recordOf, read-as}
+use Rattle.threshold.proofs.TakenLaws.{recordOf, taken}
 use Rattle.threshold.proofs.certificate.threshold_kind.Statement.{statement}
 use Rattle.threshold.proofs.certificate.threshold_kind.Tie as tie
 
@@ -25,7 +24,7 @@ module _ (c : tie.After-read) where
   known : {k : Kind} → c .read .result .kind ≡ k
       → asResult (andThen (recordOf k (c .read .result)) (λ x. answered (kindOf x))) ≡ asResult (kind bytes)
   unfolding kind
-  known e = ap (λ (a : Answered Record). asResult (andThen a (λ x. answered (kindOf x)))) (sym (read-as bytes (c .read .ensures) e))
+  known e = ap asResult (taken bytes (c .read .ensures) (λ x. answered (kindOf x)) e)
 
 enum-told : tie.Need-enum-told
 enum-told c = search needs
