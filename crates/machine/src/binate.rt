@@ -46,19 +46,17 @@ pub fn binate_place(table: Table) -> Found
     Found::Nowhere
 }
 
-// Returns the counts with one more at the row that a search found, and at its partner with the place's input true.
-fn pair_more(counts: [u32; 256], place: usize, turn: Found) -> [u32; 256]
-    requires { ⌜ (place < 8) × ((row : ℕ) → turn ≡ found (some row) → row + 2 ^ place < 256) × ((row : ℕ) → getD counts row 0 ≤ 2) ⌝ }
-    ensures { λ r. ⌜ ((o : Option ℕ) → turn ≡ found o → r ≡ pairMore place o counts) ⌝ }
+// Adds one to the count of the row that a search found, and to that of its partner with the place's input true.
+fn add_pair(counts: &mut [u32; 256], place: usize, turn: Found)
+    requires { ⌜ (place < 8) × ((row : ℕ) → turn ≡ found (some row) → row + 2 ^ place < 256) × ((row : ℕ) → getD (now counts) row 0 ≤ 2) ⌝ }
+    ensures { λ _. ⌜ ((o : Option ℕ) → turn ≡ found o → now (counts .exit) ≡ pairMore place o (now (counts .entry))) ⌝ }
 {
     let Found::Row(row) = turn else {
-        return counts;
+        return;
     };
-    let mut more = counts;
-    more[row] = more[row] + 1;
+    counts[row] = counts[row] + 1;
     let partner = row + (1usize << place);
-    more[partner] = more[partner] + 1;
-    more
+    counts[partner] = counts[partner] + 1;
 }
 
 // Returns the counts of a binate table: 1 at the lowest row where the place's input rises, at the lowest where it falls, and at their
@@ -67,6 +65,8 @@ pub fn binate_counts(table: Table, place: usize) -> [u32; 256]
     requires { ⌜ (table .n ≤ 8) × (place < table .n) ⌝ }
     ensures { λ r. ⌜ r ≡ binateCounts table place ⌝ }
 {
-    let rising = pair_more([0u32; 256], place, first_turn(table, true, place));
-    pair_more(rising, place, first_turn(table, false, place))
+    let mut counts = [0u32; 256];
+    add_pair(&mut counts, place, first_turn(table, true, place));
+    add_pair(&mut counts, place, first_turn(table, false, place));
+    counts
 }

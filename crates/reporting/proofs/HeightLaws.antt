@@ -31,7 +31,7 @@ product-most {r = r} h k = mul-le-mul h (ones-le 8 r k)
 
 module _ (t : Table) (counts : List ℕ) (small : (r : ℕ) → countOf counts r ≤ 4294967295) where
   -- what so many of 256 rows add at most
-  pub height-below : (m : ℕ) → m ≤ 256 → sumBelow m (heightTerm t counts) ≤ m * 34359738360
+  height-below : (m : ℕ) → m ≤ 256 → sumBelow m (heightTerm t counts) ≤ m * 34359738360
   height-below m h = sum-below-most m 34359738360 (heightTerm t counts) (λ r k. by (value t r) (product-most (small r) (omega arith)))
     where
       by : {x : ℕ} (v : Bool) → x ≤ 34359738360 → onlyIf v x ≤ 34359738360

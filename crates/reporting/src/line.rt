@@ -12,7 +12,8 @@ use table::table::Table;
 use table::table::row_count;
 use table::table::row_value;
 ghost use mathlib.Core.Path.{_≡_};
-ghost use Prim.Native.Nat.{_+_, _*_, _≤_};
+ghost use Prim.Native.Nat.{_+_, _*_, _≤_, _<_};
+ghost use lib.Count.{ones};
 ghost use lib.ListN.{length};
 ghost use Rattle.codec.specs.Field.{writtenAt};
 ghost use Rattle.reporting.specs.Lines.{size, weightsText, gateText, height, pairText, pairsText, witnessText, verdictText, recordLine, refusalLine, tooLongLine, meanText, lastLine};
@@ -58,17 +59,25 @@ fn put_gate(out: &mut [u8], at: usize, n: u8, k: u32, v: Vector) -> usize
     put_signed(out, here, v.b as i64)
 }
 
-// Returns the sum of count × true inputs over true rows. The true inputs of a row are counted in the bits of its number.
-fn height_of(table: Table, counts: [u32; 256]) -> u64
+// Returns a row's count × its true inputs, which are counted in the bits of its number.
+fn row_height(row: usize, count: u32) -> u64
+    requires { ⌜ row < 256 ⌝ }
+    ensures { λ r. ⌜ (r ≡ count * ones row) × (r ≤ 34359738360) ⌝ }
+{
+    count as u64 * u32::count_ones(row as u32) as u64
+}
+
+// Returns the sum of count × true inputs over true rows.
+fn height_of(table: Table, counts: &[u32; 256]) -> u64
     requires { ⌜ table .n ≤ 8 ⌝ }
-    ensures { λ r. ⌜ r ≡ height table counts ⌝ }
+    ensures { λ r. ⌜ r ≡ height table (now (counts .entry)) ⌝ }
 {
     let rows = row_count(table.n);
     let mut sum: u64 = 0;
     let mut row: usize = 0;
     while row < rows {
         if row_value(table, row) {
-            sum = sum + counts[row] as u64 * u32::count_ones(row as u32) as u64;
+            sum = sum + row_height(row, counts[row]);
         }
         row = row + 1;
     }
@@ -89,9 +98,9 @@ fn put_pair(out: &mut [u8], at: usize, row: u64, count: u32) -> usize
 }
 
 // Writes the pairs of so many rows.
-fn put_pairs(out: &mut [u8], at: usize, counts: [u32; 256], rows: usize) -> usize
-    requires { ⌜ (rows ≤ 256) × (at + length (pairsText counts rows 0) ≤ length (now out)) ⌝ }
-    ensures { λ r. ⌜ (r ≡ at + length (pairsText counts rows 0)) × (now (out .exit) ≡ writtenAt (now (out .entry)) at (pairsText counts rows 0)) ⌝ }
+fn put_pairs(out: &mut [u8], at: usize, counts: &[u32; 256], rows: usize) -> usize
+    requires { ⌜ (rows ≤ 256) × (at + length (pairsText (now counts) rows 0) ≤ length (now out)) ⌝ }
+    ensures { λ r. ⌜ (r ≡ at + length (pairsText (now (counts .entry)) rows 0)) × (now (out .exit) ≡ writtenAt (now (out .entry)) at (pairsText (now (counts .entry)) rows 0)) ⌝ }
 {
     let mut here = at;
     let mut row: usize = 0;
@@ -103,9 +112,9 @@ fn put_pairs(out: &mut [u8], at: usize, counts: [u32; 256], rows: usize) -> usiz
 }
 
 // Writes N, K, height and pairs.
-fn put_witness(out: &mut [u8], at: usize, table: Table, k: u32, counts: [u32; 256]) -> usize
-    requires { ⌜ (table .n ≤ 8) × (at + length (witnessText table k counts) ≤ length (now out)) ⌝ }
-    ensures { λ r. ⌜ (r ≡ at + length (witnessText table k counts)) × (now (out .exit) ≡ writtenAt (now (out .entry)) at (witnessText table k counts)) ⌝ }
+fn put_witness(out: &mut [u8], at: usize, table: Table, k: u32, counts: &[u32; 256]) -> usize
+    requires { ⌜ (table .n ≤ 8) × (at + length (witnessText table k (now counts)) ≤ length (now out)) ⌝ }
+    ensures { λ r. ⌜ (r ≡ at + length (witnessText table k (now (counts .entry)))) × (now (out .exit) ≡ writtenAt (now (out .entry)) at (witnessText table k (now (counts .entry)))) ⌝ }
 {
     let mut here = put_letter(out, at, b'N');
     here = put_number(out, here, k as u64);
@@ -127,8 +136,8 @@ fn put_verdict(out: &mut [u8], at: usize, job: Job) -> usize
             put_number(out, here, job.k as u64)
         }
         Stage::Found => put_gate(out, at, table.n, job.k, job.v),
-        Stage::Looped => put_witness(out, at, table, job.k, counts),
-        Stage::Binate => put_witness(out, at, table, job.k, counts),
+        Stage::Looped => put_witness(out, at, table, job.k, &counts),
+        Stage::Binate => put_witness(out, at, table, job.k, &counts),
     }
 }
 

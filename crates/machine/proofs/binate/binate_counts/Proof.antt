@@ -26,33 +26,36 @@ partner c to is row e =
 first-turn-requires : tie.Need-first-turn-requires
 first-turn-requires c κs = search needs
 
-pair-more-requires : tie.Need-pair-more-requires
-pair-more-requires c κs = (omega arith, partner (c .before) true (c .first-turn .ensures), λ row. omega (arith, getD-zeros row))
+add-pair-requires : tie.Need-add-pair-requires
+add-pair-requires c κs = (omega arith, partner (c .before .before) _ (c .first-turn .ensures), λ row. omega (arith, getD-zeros row))
 
 first-turn-requires-2 : tie.Need-first-turn-requires-2
 first-turn-requires-2 c κs = search needs
 
 -- the counts of the first pair
-rising : (c : tie.After-pair-more)
-    → let a = c .before .before .args in
-    c .pair-more .result ≡ pairMore (a .place) (firstTurn (a .table) true (a .place)) zeros
-rising c = let a = c .before .before .args in c .pair-more .ensures (firstTurn (a .table) true (a .place)) (c .before .first-turn .ensures)
+rising : (c : tie.After-add-pair)
+    → let a = c .before .before .before .args in
+    c .add-pair .last .0 ≡ pairMore (a .place) (firstTurn (a .table) true (a .place)) zeros
+rising c =
+    let a = c .before .before .before .args in c .add-pair .ensures (firstTurn (a .table) true (a .place)) (c .before .first-turn .ensures)
 
-pair-more-requires-2 : tie.Need-pair-more-requires-2
-pair-more-requires-2 c κs =
-    let start = c .before .before .before in
+add-pair-requires-2 : tie.Need-add-pair-requires-2
+add-pair-requires-2 c κs =
+    let added = c .before .before in
+    let start = added .before .before .before in
     let a = start .args in (
       omega arith,
-      partner start false (c .first-turn2 .ensures),
-      λ row. rw (rising (c .before)) (omega (arith, pair-more-le (a .place) (firstTurn (a .table) true (a .place)) zeros row, getD-zeros row)),
+      partner start _ (c .first-turn2 .ensures),
+      λ row. rw (rising added) (omega (arith, pair-more-le (a .place) (firstTurn (a .table) true (a .place)) zeros row, getD-zeros row)),
     )
 
 returns : tie.Need-returns
 returns c =
-    let a = c .before .before .before .before .args in
+    let added = c .before .before .before in
+    let a = added .before .before .before .args in
     let falls = firstTurn (a .table) false (a .place) in
-    c .pair-more2 .ensures falls (c .before .first-turn2 .ensures)
-    ∙ ap (pairMore (a .place) falls) (rising (c .before .before))
+    c .add-pair2 .ensures falls (c .before .first-turn2 .ensures)
+    ∙ ap (pairMore (a .place) falls) (rising added)
     ∙ sym (binate-counts-pairs (a .table) (a .place))
 
 pub binate-counts-spec : {M : Type 1} → statement M
@@ -60,7 +63,7 @@ binate-counts-spec =
     tie.close
     (tie.spec
     first-turn-requires
-    pair-more-requires
+    add-pair-requires
     first-turn-requires-2
-    pair-more-requires-2
+    add-pair-requires-2
     returns)

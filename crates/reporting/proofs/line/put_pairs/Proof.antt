@@ -15,10 +15,10 @@ use Rattle.reporting.proofs.line.put_pairs.Statement.{statement}
 use Rattle.reporting.proofs.line.put_pairs.Tie as tie
 
 abbrev Inv-loop : tie.InvT-loop
-Inv-loop out₀ at rows counts here₀ row₀ out here row = (row ≤ rows) × Written out₀ at (pairsText counts row 0) out here
+Inv-loop out₀ at counts rows here₀ row₀ out here row = (row ≤ rows) × Written out₀ at (pairsText counts row 0) out here
 
 abbrev μ-loop : tie.MeasureT-loop
-μ-loop out₀ at rows counts here₀ row₀ out here row = rows - row
+μ-loop out₀ at counts rows here₀ row₀ out here row = rows - row
 
 -- the pairs of so many rows, and the pair of one
 abbrev pairs : List ℕ → ℕ → List ℕ
@@ -33,17 +33,17 @@ loop-holds c = (omega arith, rw pairs-text-zero (omega arith, sym (written-nil (
 mul-put-pair : tie.Need-mul-put-pair Inv-loop μ-loop
 mul-put-pair c = search needs
 
-array-read-put-pair : tie.Need-array-read-put-pair Inv-loop μ-loop
-array-read-put-pair c = search needs
+element-copy-out-put-pair : tie.Need-element-copy-out-put-pair Inv-loop μ-loop
+element-copy-out-put-pair c = search needs
 
 put-pair-requires : tie.Need-put-pair-requires Inv-loop μ-loop
 put-pair-requires c κs =
-    let head = c .before .before in
+    let head = c .before .before .before in
     let start = head .before .before in
     let a = start .args in
-    let one-more = pairs-text-next (a .t3) in
-    let inside = c .before .loop-test .taken in
-    turn-room (pairs (a .t3)) (pair-at (a .t3)) one-more (a .rows) (now (a .out)) (a .at) (start .pre .1) (head .loop .row) inside (head .loop .inv .1)
+    let one-more = pairs-text-next (now (a .counts)) in
+    let inside = c .before .before .loop-test .taken in
+    turn-room (pairs (now (a .counts))) (pair-at (now (a .counts))) one-more (a .rows) (now (a .out)) (a .at) (start .pre .1) (head .loop .row) inside (head .loop .inv .1)
 
 add-row : tie.Need-add-row Inv-loop μ-loop
 add-row c = search needs
@@ -53,13 +53,13 @@ loop-less c = search needs
 
 loop-again : tie.Need-loop-again Inv-loop μ-loop
 loop-again c =
-    let head = c .before .before .before .before .before in
+    let head = c .before .before .before .before .before .before in
     let start = head .before .before in
     let a = start .args in
-    let one-more = pairs-text-next (a .t3) in
-    let inside = c .before .before .before .before .loop-test .taken in
+    let one-more = pairs-text-next (now (a .counts)) in
+    let inside = c .before .before .before .before .before .loop-test .taken in
     let wrote = c .before .before .put-pair .ensures in
-    (omega arith, turn-written (pairs (a .t3)) (pair-at (a .t3)) one-more (a .rows) (now (a .out)) (a .at) (start .pre .1) (head .loop .row) inside (head .loop .inv .1) wrote)
+    (omega arith, turn-written (pairs (now (a .counts))) (pair-at (now (a .counts))) one-more (a .rows) (now (a .out)) (a .at) (start .pre .1) (head .loop .row) inside (head .loop .inv .1) wrote)
 
 returns : tie.Need-returns Inv-loop μ-loop
 returns c =
@@ -70,7 +70,7 @@ same-length : tie.Need-same-length Inv-loop μ-loop
 same-length c =
     let start = c .before .before .before in
     let a = start .args in
-    ap length (returns c .1) ∙ written-length (now (a .out)) (a .at) (pairsText (a .t3) (a .rows) 0) (start .pre .1)
+    ap length (returns c .1) ∙ written-length (now (a .out)) (a .at) (pairsText (now (a .counts)) (a .rows) 0) (start .pre .1)
 
 pub put-pairs-spec : {M : Type 1} → statement M
 put-pairs-spec =
@@ -80,7 +80,7 @@ put-pairs-spec =
     μ-loop
     loop-holds
     mul-put-pair
-    array-read-put-pair
+    element-copy-out-put-pair
     put-pair-requires
     add-row
     loop-less

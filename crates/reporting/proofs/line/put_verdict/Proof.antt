@@ -62,16 +62,16 @@ enum-told-3 c = search needs
 
 put-witness-requires : tie.Need-put-witness-requires
 put-witness-requires c κs =
-    let s = c .before .before .before .before .before .before in
-    (s .pre .0, room s (c .before .enum-told3 .given .1))
+    let s = c .before .before .before .before .before .before .before in
+    (s .pre .0, room s (c .before .before .enum-told3 .given .1))
 
 enum-told-4 : tie.Need-enum-told-4
 enum-told-4 c = search needs
 
 put-witness-requires-2 : tie.Need-put-witness-requires-2
 put-witness-requires-2 c κs =
-    let s = c .before .before .before .before .before .before in
-    (s .pre .0, room s (c .before .enum-told4 .given .1))
+    let s = c .before .before .before .before .before .before .before in
+    (s .pre .0, room s (c .before .before .enum-told4 .given .1))
 
 same-length : tie.Need-same-length
 same-length c = search needs
@@ -89,13 +89,13 @@ same-length-3 : tie.Need-same-length-3
 same-length-3 c = search needs
 
 returns-3 : tie.Need-returns-3
-returns-3 c = rw (c .before .before .before .before .enum-told3 .given .1) (c .before .before .put-witness .ensures)
+returns-3 c = rw (c .before .before .before .before .before .enum-told3 .given .1) (c .before .before .put-witness .ensures)
 
 same-length-4 : tie.Need-same-length-4
 same-length-4 c = search needs
 
 returns-4 : tie.Need-returns-4
-returns-4 c = rw (c .before .before .before .before .enum-told4 .given .1) (c .before .before .put-witness2 .ensures)
+returns-4 c = rw (c .before .before .before .before .before .enum-told4 .given .1) (c .before .before .put-witness2 .ensures)
 
 pub put-verdict-spec : {M : Type 1} → statement M
 put-verdict-spec =
