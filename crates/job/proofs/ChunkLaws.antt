@@ -1,20 +1,16 @@
--- The loop of `chunk` beside the machine. Its job keeps the vectors that it came with; those of the machine are v and s, whose sums the
--- loop has. With them the job stands where the machine does (`Stands` of SteppingLaws), and v is small enough for places of 16 bits.
--- Assumes nothing.
+-- The loop of `chunk` beside the machine: a turn of the loop is a step, and where the loop ends the job is the machine's. Assumes nothing.
 use mathlib.Core.Path.{_≡_, refl, sym, _∙_, ap, subst}
 use mathlib.Core.Logic.{_≢_}
 use mathlib.Core.Bool.{Bool, true, false}
 use mathlib.Core.List.{List}
 use mathlib.Core.Option.{Option, some, none}
-use Prim.Native.Nat.{ℕ, _+_, _*_, _-_, _/_, _≤_, _<_}
+use Prim.Native.Nat.{ℕ, _+_, _*_, _/_, _≤_, _<_}
 use native.Mathlib.Decide.{decLe}
 use native.Mathlib.Omega.{arith}
 use lib.Dec.{eqb}
-use lib.ListN.{length, getD, drop, List·getD-append}
-use lib.Seq.{ext-getD}
+use lib.ListN.{length, getD}
 use lib.IntN.{ℤ, pos}
-use Rattle.numbers.proofs.TabulateLaws.{filled, getD-unfilled, length-tabulate, getD-tabulate, length-filled}
-use Rattle.numbers.specs.Tabulate.{tabulate}
+use Rattle.numbers.proofs.TabulateLaws.{filled}
 use Rattle.table.specs.declared.table.Table.{Table}
 use Rattle.table.specs.Table.{rows, value}
 use Rattle.table.specs.Gate.{inRange}
@@ -26,87 +22,22 @@ use Rattle.machine.specs.Vector.{correctedBy, sameVector}
 use Rattle.machine.specs.Binate.{zeros, oneMore}
 use Rattle.machine.specs.Power.{highest}
 use Rattle.machine.proofs.VectorLaws.{length-corrected, length-one-more, one-more-other}
-use Rattle.machine.proofs.BinateLaws.{getD-zeros}
 use Rattle.machine.proofs.FailingLaws.{failing-some}
 use Rattle.machine.proofs.RangeLaws.{in-range-correct, in-range-wider, corrected-in-range}
+use Rattle.lanes.specs.Sums.{magnitude, vectorSums, Narrow}
+use Rattle.lanes.specs.Codes.{rowCode, foundCode}
+use Rattle.lanes.proofs.SumsLaws.{sums-narrow, sums-first, magnitude-corrected}
 use Rattle.job.specs.declared.job.Job.{Job}
 use Rattle.job.specs.declared.job.Stage.{Stage}
 use Rattle.job.specs.declared.job.Stage.the-variants as Stage′
-use Rattle.lanes.specs.Sums.{magnitude, vectorSums, Narrow}
-use Rattle.lanes.specs.Codes.{rowCode, foundCode}
 use Rattle.job.specs.Machine.{withStage, run}
 use Rattle.job.specs.Sound.{cap, Ranged, Sound}
-use Rattle.lanes.proofs.SumsLaws.{sums-narrow, sums-first, magnitude-corrected}
 use Rattle.job.proofs.CodeLaws.{code-below, no-row, row-is}
 use Rattle.job.proofs.MachineLaws.{marked-power, marked-other}
 use Rattle.job.proofs.StepSound.{with-stage-same}
-use Rattle.job.proofs.SteppingLaws.{Stands, stands-start, stands-found, stands-row, stands-open, stands-looped, moved, stands-next, Bounded, stands-bounded}
-
--- ---- where the loop stands
-
--- the loop's job with the vectors v and s
-abbrev pub withVectors : Vector → Vector → Job → Job
-withVectors v s j = record { table = j .table; k = j .k; v = v; mark = j .mark; s = s; counts = j .counts; stage = j .stage }
-
--- what `clear` stores
-abbrev uncounted : ℕ → ℕ
-uncounted r = 0
-
--- the loop's job at its mark
-abbrev pub marking : Job → Job
-marking j = record { table = j .table; k = j .k; v = j .v; mark = j .k; s = j .s; counts = zeros; stage = j .stage }
-
--- the sums are those of v and of s, with which the job stands at the machine's after m steps from `start`; v grows by 9 a step
-pub record Held (start : Job) (m : ℕ) (j : Job) (sums copy : List ℤ) : Type 0 where
-  pub v : Vector
-  pub s : Vector
-  pub current : sums ≡ vectorSums v
-  pub copied : copy ≡ vectorSums s
-  pub stands : Stands start m (withVectors v s j)
-  pub small : magnitude v ≤ 14000 + 9 * m
-
--- the sums of a sound open job, where the loop begins
-pub held-start : {j : Job} {sums copy : List ℤ} → Sound j → j .stage ≡ Stage′.Open → magnitude (j .v) ≤ 14000
-    → sums ≡ vectorSums (j .v) → copy ≡ vectorSums (j .s) → Held j 0 j sums copy
-held-start {j} sound e small current copied = record {
-  v = j .v;
-  s = j .s;
-  current = current;
-  copied = copied;
-  stands = stands-start sound e;
-  small = omega arith;
-}
-
--- what the contracts of the code say of any vectors that have the sums: of `lowest`, `correct` and `same_sums`; and a job with such vectors
-abbrev pub Searches : Table → List ℤ → ℕ → Type 0
-Searches t sums next =
-    (k : ℕ) (v : Vector) → length (v .a) ≡ 8 → inRange k (t .n) (v .a) (v .b) ≡ true → sums ≡ vectorSums v
-    → next ≡ foundCode t (failing t v)
-
-abbrev pub Corrects : List ℤ → ℕ → List ℤ → Type 0
-Corrects sums code after =
-    (v : Vector) (y : Bool) (row : ℕ) → length (v .a) ≡ 8 → row < 256 → code ≡ rowCode y row → sums ≡ vectorSums v
-    → after ≡ vectorSums (correctedBy y row v)
-
-abbrev pub Compares : Table → List ℤ → List ℤ → Bool → Type 0
-Compares t sums copy same =
-    (k : ℕ) (v s : Vector) → length (v .a) ≡ 8 → length (s .a) ≡ 8
-    → inRange k (t .n) (v .a) (v .b) ≡ true → inRange k (t .n) (s .a) (s .b) ≡ true
-    → sums ≡ vectorSums v → copy ≡ vectorSums s → same ≡ sameVector v s
-
-abbrev pub Restores : Job → List ℤ → List ℤ → Stage → Job → Type 0
-Restores j sums copy x r =
-    (v s : Vector) → length (v .a) ≡ 8 → length (s .a) ≡ 8 → sums ≡ vectorSums v → copy ≡ vectorSums s → r ≡ withStage x (withVectors v s j)
-
--- the vectors that `vector_of` makes of the sums restore the job
-pub restores : (j : Job) {sums copy : List ℤ} (x : Stage) (a b : Vector)
-    → ((v : Vector) → length (v .a) ≡ 8 → sums ≡ vectorSums v → a ≡ v)
-    → ((s : Vector) → length (s .a) ≡ 8 → copy ≡ vectorSums s → b ≡ s) → Restores j sums copy x (withStage x (withVectors a b j))
-restores j x a b current copied v s v-weights s-weights v-sums s-sums =
-    ap (λ (u : Vector). withStage x (withVectors u b j)) (current v v-weights v-sums)
-    ∙ ap (λ (u : Vector). withStage x (withVectors v u j)) (copied s s-weights s-sums)
-
--- ---- a turn of the loop
+use Rattle.job.proofs.SteppingLaws.{Stands, stands-found, stands-row, stands-open, stands-looped, moved, stands-next, Bounded, stands-bounded}
+use Rattle.job.proofs.ClearLaws.{uncounted, cleared-zeros}
+use Rattle.job.proofs.HeldLaws.{withVectors, marking, Held, Searches, Corrects, Compares, Restores}
 
 -- what `chunk` asks of its job and its budget
 pub record Begun (start : Job) (budget : ℕ) : Type 0 where
@@ -208,43 +139,18 @@ module _ {start : Job} {budget : ℕ} (b : Begun start budget) where
       coded : next ≡ rowCode sign row
       coded = row-is (start .table) v (t .search) other .1
 
-      -- the row that is found is one of the 256, and its code is one of 512
+      -- the row that is found is one of the 256
       pub turned-row : next / 2 < 256
       turned-row = omega (arith, stands-row stands row-found, rows-le (b .inputs))
 
-      pub turned-code : next < 512
-      turned-code = omega (arith, coded, code-below sign row turned-row)
-
-      -- where `clear` has set the counts of the table's rows to 0, all are 0
+      -- a mark clears the counts of the table's rows, and the others are 0
       pub turned-cleared : {counts : List ℕ} → counts ≡ filled uncounted (oneMore row (j .counts)) (rows (start .table)) → counts ≡ zeros
       turned-cleared e =
-          e ∙ ext-getD 0 (filled uncounted old most) zeros (length-filled uncounted old most (omega (arith, shaped, few)) ∙ shaped) (λ i h. at i (decLe most i))
-        where
-          old : List ℕ
-          old = oneMore row (j .counts)
-
-          most : ℕ
-          most = rows (start .table)
-
-          few : most ≤ 256
-          few = rows-le (b .inputs)
-
-          shaped : length old ≡ 256
-          shaped = length-one-more row (j .counts) ∙ turned-bounded .shaped .counts
-
-          at : (i : ℕ) → Dec (most ≤ i) → getD (filled uncounted old most) i 0 ≡ getD zeros i 0
-          at i (yes past) =
-              let there : most + (i - most) ≡ i = omega arith in
-              ap (λ (x : ℕ). getD (filled uncounted old most) x 0) (sym there)
-              ∙ getD-unfilled uncounted old most (i - most) 0
-              ∙ ap (λ (x : ℕ). getD old x 0) there
-              ∙ one-more-other row i (j .counts) (λ e. omega (arith, stands-row stands row-found))
-              ∙ turned-bounded .past i (subst (λ (t : Table). rows t ≤ i) (sym (stands .table)) past)
-              ∙ sym (getD-zeros i)
-          at i (no inside) =
-              List·getD-append (tabulate most uncounted) (drop most old) 0 i (omega (arith, length-tabulate uncounted most))
-              ∙ getD-tabulate uncounted most i 0 (omega arith)
-              ∙ sym (getD-zeros i)
+          e
+          ∙ cleared-zeros (oneMore row (j .counts)) (rows (start .table)) (length-one-more row (j .counts) ∙ turned-bounded .shaped .counts) (rows-le (b .inputs))
+          (λ r past.
+          one-more-other row r (j .counts) (λ e. omega (arith, stands-row stands row-found))
+          ∙ turned-bounded .past r (subst (λ (t : Table). rows t ≤ r) (sym (stands .table)) past))
 
       -- the job is then the machine's
       pub turned-open : {r : Job} → budget ≤ m → Restores j sums copy Stage′.Open r → r ≡ run budget start

@@ -8,6 +8,8 @@ pub mod Soundness
 pub mod SoundTest
 pub mod SteppingLaws
 pub mod CodeLaws
+pub mod ClearLaws
+pub mod HeldLaws
 pub mod ChunkLaws
 pub mod JobChecked
 pub mod DecidedLaws

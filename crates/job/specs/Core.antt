@@ -1,5 +1,5 @@
--- A job taken apart for the fast form of its steps: its table, its core and its counts. For the inside of the machine alone. Definitions only.
--- Assumes nothing.
+-- A job taken apart for the fast form of its steps: its table, its core and its counts. For the inside of the machine alone.
+-- Definitions only. Assumes nothing.
 use mathlib.Core.List.{List}
 use Prim.Native.Nat.{ℕ}
 use Rattle.table.specs.declared.table.Table.{Table}

@@ -10,7 +10,8 @@ ghost use Rattle.lanes.specs.Codes.{stepAt};
 ghost use Rattle.job.specs.Machine.{run, fresh};
 ghost use Rattle.job.specs.Calls.{callBudget};
 
-// Returns the job of a table that keeps its format after one carry-on of the whole call budget from its fresh job.
+// Returns the job of a table of at most eight inputs after one carry-on of the whole call budget from its fresh job. `step` is the table of
+// steps.
 pub fn decided_by(table: Table, step: &[i16; 2048]) -> Job
     requires { ⌜ (table .n ≤ 8) × Holds stepAt 2048 (now step) ⌝ }
     ensures { λ r. ⌜ r ≡ run callBudget (fresh table) ⌝ }

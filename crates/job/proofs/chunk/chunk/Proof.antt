@@ -5,15 +5,16 @@ use mathlib.Core.Logic.{⊎-elim, _≢_}
 use Prim.Native.Nat.{_+_, _-_, _/_, _≤_, _<_}
 use native.Mathlib.Omega.{arith}
 use borrow.Author.Needs.{needs}
+use lib.ListN.{length-set}
 use borrow.Author.Tests.{eq-eqb, ne-eqb, ltb-true, ltb-false}
 use Rattle.numbers.proofs.TabulateLaws.{filled}
 use Rattle.table.specs.Table.{rows}
 use Rattle.table.proofs.TableLaws.{rows-le}
-use Rattle.machine.proofs.VectorLaws.{length-one-more}
 use Rattle.job.specs.declared.job.Job.{Job}
 use Rattle.job.specs.Core.{jobOf}
 use Rattle.job.proofs.SteppingLaws.{Bounded}
-use Rattle.job.proofs.ChunkLaws.{withVectors, Held, held-start, restores, Begun, Turned, Going, held-narrow, held-turned, turned-bounded, turned-row, turned-cleared, turned-going, turned-closed, turned-marked, turned-other, going-ends}
+use Rattle.job.proofs.HeldLaws.{withVectors, Held, held-start, restores}
+use Rattle.job.proofs.ChunkLaws.{Begun, Turned, Going, held-narrow, held-turned, turned-bounded, turned-row, turned-cleared, turned-going, turned-closed, turned-marked, turned-other, going-ends}
 use Rattle.job.proofs.chunk.chunk.Statement.{statement}
 use Rattle.job.proofs.chunk.chunk.Tie as tie
 
@@ -165,7 +166,7 @@ clear-requires : tie.Need-clear-requires Inv-loop μ-loop
 clear-requires c κs =
     let at = turn (compared (c .before .before) .before) in
     let from = from-head (head at) in (
-      length-one-more (head at .loop .next / 2) (head at .loop .counts) ∙ bounded at .shaped .counts,
+      length-set (head at .loop .counts) (head at .loop .next / 2) _ ∙ bounded at .shaped .counts,
       omega (arith, rows-of from, rows-le (begun from .inputs)),
     )
 
