@@ -2,10 +2,10 @@
 use crate::ways;
 use crate::ways::Work;
 use cell::refusal::Status;
-use job::job::Stage;
 use libc::STDOUT_FILENO;
 use reading::head::read_head;
 use std::num::wrapping_add_u64;
+use types::stage::Stage;
 
 // The tables, the jobs by stage, the corrections made, the calls of carry-on, and the bytes that jobs were saved in.
 pub struct Tally {

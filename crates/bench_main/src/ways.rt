@@ -1,13 +1,13 @@
 // The ways in which the fresh job of a table is carried on by 100,000 corrections or to its end: 1 in one call, 2 in calls of 64, and 3
 // in calls of 64 with the job saved and read back after each that leaves it open.
 use job::job::Job;
-use job::job::Stage;
 use records::reader::read;
 use records::write::Written;
 use records::write::save;
 use samples::parts::first_bytes;
 use std::num::wrapping_add_u64;
-use table::table::Table;
+use types::stage::Stage;
+use types::table::Table;
 ghost use Prim.Native.Nat.{_≤_, _<_};
 
 // The number of the last way.

@@ -6,7 +6,7 @@ use Prim.Native.Nat.{ℕ, _≤_}
 use native.Mathlib.Omega.{arith}
 use borrow.Author.Tests.{ltb-false}
 use Rattle.cell.proofs.RefusalLaws.{refused-first-broken, first-broken-refused, none-broken-answered, answered-none-broken}
-use Rattle.table.specs.declared.table.Table.{Table}
+use Rattle.types.specs.declared.table.Table.{Table}
 use Rattle.table.specs.Table.{inputLimit}
 use Rattle.cell.specs.declared.refusal.Status.{Status}
 use Rattle.cell.specs.declared.refusal.Status.the-variants as Status′

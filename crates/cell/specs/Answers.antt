@@ -4,8 +4,8 @@ use mathlib.Core.Bool.{Bool, true, false}
 use mathlib.Core.List.{List}
 use lib.ListN.{replicate}
 use lib.IntN.{ℤ, pos}
-use Rattle.table.specs.declared.inputs.Place.{Place}
-use Rattle.table.specs.declared.inputs.InputKind.the-variants.{Idle}
+use Rattle.types.specs.declared.inputs.Place.{Place}
+use Rattle.types.specs.declared.inputs.InputKind.the-variants.{Idle}
 use Rattle.cell.specs.declared.refusal.Answer.{Answer}
 use Rattle.cell.specs.declared.refusal.Answer.the-variants as Answer′
 use Rattle.cell.specs.declared.refusal.Status.{Status}

@@ -5,10 +5,10 @@ use mathlib.Core.List.{List, [], _∷_}
 use Prim.Native.Nat.{ℕ}
 use lib.Dec.{ltb, eqb}
 use lib.IntN.{ℤ}
-use Rattle.table.specs.declared.table.Table.{Table}
-use Rattle.table.specs.declared.gate.Gate.{Gate}
-use Rattle.table.specs.declared.witness.Witness.{Witness}
-use Rattle.table.specs.declared.inputs.Place.{Place}
+use Rattle.types.specs.declared.table.Table.{Table}
+use Rattle.types.specs.declared.gate.Gate.{Gate}
+use Rattle.types.specs.declared.witness.Witness.{Witness}
+use Rattle.types.specs.declared.inputs.Place.{Place}
 use Rattle.table.specs.Table.{inputLimit, rowsOf, value, spareSet}
 use Rattle.table.specs.Gate.{gateTrue, realises, beyond}
 use Rattle.table.specs.Witness.{balances, unfit}

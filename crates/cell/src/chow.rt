@@ -2,7 +2,7 @@
 use crate::refusal::Status;
 use crate::refusal::table_status;
 use table::chow::all_chow;
-use table::table::Table;
+use types::table::Table;
 ghost use mathlib.Core.Path.{_≡_};
 ghost use Rattle.cell.specs.Answers.{chow};
 ghost use Rattle.cell.specs.Calls.{chowParameters};

@@ -1,10 +1,10 @@
 // The kinds of a table's inputs.
 use crate::refusal::Status;
 use crate::refusal::table_status;
-use table::inputs::InputKind;
-use table::inputs::Place;
 use table::inputs::all_kinds;
-use table::table::Table;
+use types::inputs::InputKind;
+use types::inputs::Place;
+use types::table::Table;
 ghost use mathlib.Core.Path.{_≡_};
 ghost use Rattle.cell.specs.Answers.{kinds};
 ghost use Rattle.cell.specs.Calls.{inputKinds};

@@ -1,6 +1,6 @@
 // What a call answers when it has no value to give, and the test of a table that every call starts with.
-use table::table::Table;
 use table::table::spare_set;
+use types::table::Table;
 ghost use mathlib.Core.Path.{_≡_};
 ghost use Rattle.cell.specs.Answers.{answerOf, status};
 ghost use Rattle.cell.specs.Calls.{tableChecked};

@@ -6,8 +6,8 @@ use Prim.Native.Nat.{ℕ, _+_, _-_}
 use native.Mathlib.Omega.{arith}
 use Rattle.cell.specs.Refusal.{Answered, answered, refused, checked}
 use Rattle.job.specs.declared.job.Job.{Job}
-use Rattle.job.specs.declared.job.Stage.{Stage}
-use Rattle.job.specs.declared.job.Stage.the-variants.{Open, Found, Looped, Binate}
+use Rattle.types.specs.declared.stage.Stage.{Stage}
+use Rattle.types.specs.declared.stage.Stage.the-variants.{Open, Found, Looped, Binate}
 use Rattle.job.specs.Machine.{run}
 use Rattle.job.specs.Calls.{jobRules, budgetRange, pastCap, ifOpen, carryOn, carried}
 use Rattle.job.proofs.MachineLaws.{run-ended, run-add, open-or-ended}

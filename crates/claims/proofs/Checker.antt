@@ -3,9 +3,9 @@ use mathlib.Core.Path.{_≡_, _∙_, ap}
 use mathlib.Core.Bool.{Bool, true}
 use mathlib.Core.Logic.{_↔_}
 use mathlib.Core.List.{List}
-use Rattle.table.specs.declared.table.Table.{Table}
-use Rattle.table.specs.declared.gate.Gate.{Gate}
-use Rattle.table.specs.declared.witness.Witness.{Witness}
+use Rattle.types.specs.declared.table.Table.{Table}
+use Rattle.types.specs.declared.gate.Gate.{Gate}
+use Rattle.types.specs.declared.witness.Witness.{Witness}
 use Rattle.table.specs.Gate.{Realises, realises}
 use Rattle.table.specs.Witness.{countOf, Balances, balances}
 use Rattle.table.proofs.GateLaws.{realises-correct}

@@ -12,8 +12,8 @@ use Rattle.cell.specs.Refusal.{answered, NoneBroken}
 use Rattle.cell.specs.Calls.{tableRules, checkGate, checkWitness}
 use Rattle.cell.proofs.RefusalLaws.{answered-none-broken}
 use Rattle.job.specs.declared.job.Job.{Job}
-use Rattle.job.specs.declared.job.Stage.{Stage}
-use Rattle.job.specs.declared.job.Stage.the-variants.{Open, Found, Looped, Binate}
+use Rattle.types.specs.declared.stage.Stage.{Stage}
+use Rattle.types.specs.declared.stage.Stage.the-variants.{Open, Found, Looped, Binate}
 use Rattle.job.specs.Sound.{Sound}
 use Rattle.job.specs.Calls.{jobRules, gateOf, witnessOf}
 use Rattle.job.proofs.JobChecked.{kept-sound}

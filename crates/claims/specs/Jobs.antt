@@ -6,13 +6,13 @@ use mathlib.Core.List.{List, [], _∷_}
 use Prim.Native.Nat.{ℕ, _+_, _*_, _≤_, _<_}
 use lib.IntN.{ℤ}
 use lib.ListN.{length}
-use Rattle.table.specs.declared.table.Table.{Table}
+use Rattle.types.specs.declared.table.Table.{Table}
 use Rattle.table.specs.Gate.{Realises}
 use Rattle.cell.specs.Refusal.{answered, refused, NoneBroken}
 use Rattle.cell.specs.Calls.{tableRules, pastRows, checkGate, checkWitness}
 use Rattle.machine.specs.Failing.{fails}
 use Rattle.job.specs.declared.job.Job.{Job}
-use Rattle.job.specs.declared.job.Stage.the-variants.{Open, Found, Looped, Binate}
+use Rattle.types.specs.declared.stage.Stage.the-variants.{Open, Found, Looped, Binate}
 use Rattle.job.specs.Machine.{step, run, fresh}
 use Rattle.job.specs.Sound.{cap, Sound, isSound}
 use Rattle.job.specs.Calls.{callBudget, freshJob, decidedJob, jobRules, budgetRange, pastCap, carryOn, carried}

@@ -4,7 +4,7 @@ use mathlib.Core.Path.{_≡_}
 use mathlib.Core.List.{List}
 use Prim.Native.Nat.{ℕ, _+_, _≤_, _<_}
 use lib.ListN.{length}
-use Rattle.table.specs.declared.table.Table.{Table}
+use Rattle.types.specs.declared.table.Table.{Table}
 use Rattle.cell.specs.Refusal.{answered}
 use Rattle.job.specs.Machine.{fresh}
 use Rattle.job.specs.Calls.{callBudget, carryOn}

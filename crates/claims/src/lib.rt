@@ -1,9 +1,9 @@
 // The claims, a function for each: its contract is the statement, and its body does nothing. So a claim without a proof fails the
 // check, and a check prints a line for each.
 use job::job::Job;
-use table::gate::Gate;
-use table::table::Table;
-use table::witness::Witness;
+use types::gate::Gate;
+use types::table::Table;
+use types::witness::Witness;
 ghost use Rattle.theory.specs.Cases.{MarkedCases};
 ghost use Rattle.records.specs.Record.{ofTable, ofGate, ofWitness, ofJob};
 ghost use Rattle.claims.specs.Lists.{CallsAreTheMachine};

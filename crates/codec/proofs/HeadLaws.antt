@@ -11,7 +11,7 @@ use lib.Seq.{ext-getD, take-at, length-take-le}
 use borrow.Author.Tests.{ltb-false, leb-true, le-ltb, le-leb, not-false}
 use Rattle.numbers.specs.Tests.{allAtMost}
 use Rattle.numbers.proofs.TestLaws.{and-left, and-right, or-false-right, all-at-most-at}
-use Rattle.table.specs.declared.table.Table.{Table}
+use Rattle.types.specs.declared.table.Table.{Table}
 use Rattle.table.specs.Table.{inputLimit, rowsOf, byteCount, spareSet}
 use Rattle.table.proofs.TableLaws.{bytes-le}
 use Rattle.cell.specs.Refusal.{rule, answered, checked, NoneBroken, none, also}

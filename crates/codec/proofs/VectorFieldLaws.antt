@@ -15,7 +15,7 @@ use borrow.Author.Tests.{not-false, ltb-true, ltb-false}
 use Rattle.numbers.proofs.TestLaws.{no-true}
 use Rattle.table.specs.Gate.{weightLimit, within, inRange}
 use Rattle.cell.specs.Refusal.{answered}
-use Rattle.machine.specs.declared.vector.Vector.{Vector}
+use Rattle.types.specs.declared.vector.Vector.{Vector}
 use Rattle.machine.specs.Vector.{zeroVector}
 use Rattle.machine.proofs.RangeLaws.{within-correct, in-range-correct, in-range-at, in-range-past}
 use Rattle.codec.specs.Field.{Field, field}

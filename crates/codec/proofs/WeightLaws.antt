@@ -6,7 +6,7 @@ use Prim.Native.Nat.{ℕ, zero, suc, _+_, _*_, _≤_}
 use native.Mathlib.Nat.{add-zero, zero-add, add-suc, suc-add}
 use lib.ListN.{length, getD}
 use lib.IntN.{ℤ, pos}
-use Rattle.machine.specs.declared.vector.Vector.{Vector}
+use Rattle.types.specs.declared.vector.Vector.{Vector}
 use Rattle.codec.specs.Number.{numberBytes, signedCode}
 use Rattle.codec.specs.VectorField.{weightBytes, vectorBytes}
 use Rattle.codec.proofs.NumberLaws.{number-length}

@@ -2,7 +2,7 @@
 // the gates are the published counts of threshold functions.
 mod outcome;
 
-use table::table::Table;
+use types::table::Table;
 use vectors::show;
 ghost use Prim.Native.Nat.{_≤_};
 

@@ -11,12 +11,12 @@ use lib.Dec.{eqb}
 use lib.ListN.{length, getD}
 use lib.IntN.{ℤ, pos}
 use Rattle.numbers.proofs.TabulateLaws.{filled}
-use Rattle.table.specs.declared.table.Table.{Table}
+use Rattle.types.specs.declared.table.Table.{Table}
 use Rattle.table.specs.Table.{rows, value}
 use Rattle.table.specs.Gate.{inRange}
 use Rattle.table.specs.Inputs.{found}
 use Rattle.table.proofs.TableLaws.{rows-le}
-use Rattle.machine.specs.declared.vector.Vector.{Vector}
+use Rattle.types.specs.declared.vector.Vector.{Vector}
 use Rattle.machine.specs.Failing.{failing}
 use Rattle.machine.specs.Vector.{correctedBy, sameVector}
 use Rattle.machine.specs.Binate.{zeros, oneMore}
@@ -28,8 +28,8 @@ use Rattle.lanes.specs.Sums.{magnitude, vectorSums, Narrow}
 use Rattle.lanes.specs.Codes.{rowCode, foundCode}
 use Rattle.lanes.proofs.SumsLaws.{sums-narrow, sums-first, magnitude-corrected}
 use Rattle.job.specs.declared.job.Job.{Job}
-use Rattle.job.specs.declared.job.Stage.{Stage}
-use Rattle.job.specs.declared.job.Stage.the-variants as Stage′
+use Rattle.types.specs.declared.stage.Stage.{Stage}
+use Rattle.types.specs.declared.stage.Stage.the-variants as Stage′
 use Rattle.job.specs.Machine.{withStage, run}
 use Rattle.job.specs.Sound.{cap, Ranged, Sound}
 use Rattle.job.proofs.CodeLaws.{code-below, no-row, row-is}

@@ -5,13 +5,13 @@ use mathlib.Core.List.{[], _∷_}
 use Prim.Native.Nat.{_+_}
 use native.Mathlib.Omega.{arith}
 use borrow.Author.Tests.{le-ltb}
-use Rattle.table.specs.declared.table.Table.{Table}
+use Rattle.types.specs.declared.table.Table.{Table}
 use Rattle.cell.specs.Refusal.{Answered, answered, checked, NoneBroken, none, also}
 use Rattle.cell.specs.Calls.{tableRules}
 use Rattle.cell.proofs.RefusalLaws.{none-broken-answered}
 use Rattle.cell.proofs.TableChecked.{kept-inputs}
 use Rattle.job.specs.declared.job.Job.{Job}
-use Rattle.job.specs.declared.job.Stage.the-variants.{Open}
+use Rattle.types.specs.declared.stage.Stage.the-variants.{Open}
 use Rattle.job.specs.Machine.{run, fresh}
 use Rattle.job.specs.Sound.{cap}
 use Rattle.job.specs.Calls.{callBudget, decidedJob, jobRules, budgetRange, pastCap, ifOpen, carryOn}

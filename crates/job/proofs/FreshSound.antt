@@ -17,12 +17,12 @@ use Rattle.numbers.specs.Sum.{weightedSum}
 use Rattle.numbers.specs.Tests.{allAtMost}
 use Rattle.numbers.proofs.FirstLaws.{first-some}
 use Rattle.numbers.proofs.TestLaws.{and-left}
-use Rattle.table.specs.declared.table.Table.{Table}
+use Rattle.types.specs.declared.table.Table.{Table}
 use Rattle.table.specs.Table.{rows, level, value}
 use Rattle.table.specs.Gate.{distance}
 use Rattle.table.specs.Inputs.{turnsAt, firstTurn}
 use Rattle.table.proofs.TableLaws.{partner-below}
-use Rattle.job.specs.declared.job.Stage.the-variants.{Open, Binate}
+use Rattle.types.specs.declared.stage.Stage.the-variants.{Open, Binate}
 use Rattle.machine.specs.Failing.{margin, fails, failing}
 use Rattle.machine.specs.Binate.{oneMore, zeros, binatePlace, pairMore, binateCounts}
 use Rattle.machine.specs.Vector.{zeroVector}

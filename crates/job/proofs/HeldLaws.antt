@@ -7,17 +7,17 @@ use Prim.Native.Nat.{ℕ, _+_, _*_, _≤_, _<_}
 use native.Mathlib.Omega.{arith}
 use lib.ListN.{length}
 use lib.IntN.{ℤ}
-use Rattle.table.specs.declared.table.Table.{Table}
+use Rattle.types.specs.declared.table.Table.{Table}
 use Rattle.table.specs.Gate.{inRange}
-use Rattle.machine.specs.declared.vector.Vector.{Vector}
+use Rattle.types.specs.declared.vector.Vector.{Vector}
 use Rattle.machine.specs.Failing.{failing}
 use Rattle.machine.specs.Vector.{correctedBy, sameVector}
 use Rattle.machine.specs.Binate.{zeros}
 use Rattle.lanes.specs.Sums.{magnitude, vectorSums}
 use Rattle.lanes.specs.Codes.{rowCode, foundCode}
 use Rattle.job.specs.declared.job.Job.{Job}
-use Rattle.job.specs.declared.job.Stage.{Stage}
-use Rattle.job.specs.declared.job.Stage.the-variants as Stage′
+use Rattle.types.specs.declared.stage.Stage.{Stage}
+use Rattle.types.specs.declared.stage.Stage.the-variants as Stage′
 use Rattle.job.specs.Machine.{withStage}
 use Rattle.job.specs.Sound.{Sound}
 use Rattle.job.proofs.SteppingLaws.{Stands, stands-start}

@@ -13,8 +13,8 @@ use Rattle.cell.specs.Refusal.{Rule, Answered, refused, checked, NoneBroken, al
 use Rattle.cell.proofs.RefusalLaws.{refused-first-broken, first-broken-refused, none-broken-answered}
 use Rattle.cell.proofs.TableChecked.{status-refused, done-none-broken, kept-inputs, others-kept, all-kept}
 use Rattle.job.specs.declared.job.Job.{Job}
-use Rattle.job.specs.declared.job.Stage.{Stage}
-use Rattle.job.specs.declared.job.Stage.the-variants.{Open, Found, Looped, Binate}
+use Rattle.types.specs.declared.stage.Stage.{Stage}
+use Rattle.types.specs.declared.stage.Stage.the-variants.{Open, Found, Looped, Binate}
 use Rattle.job.specs.Sound.{Sound, isSound}
 use Rattle.cell.specs.Calls.{tableRules}
 use Rattle.job.specs.Calls.{unsound, jobRules, jobChecked, ifOpen}

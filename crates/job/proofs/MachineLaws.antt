@@ -8,11 +8,11 @@ use Prim.Native.Nat.{ℕ, zero, suc, _+_, _≤_}
 use native.Mathlib.Nat.{zero-add, suc-add}
 use native.Mathlib.Omega.{arith}
 use lib.Dec.{eqb}
-use Rattle.table.specs.declared.table.Table.{Table}
+use Rattle.types.specs.declared.table.Table.{Table}
 use Rattle.table.specs.Table.{value}
 use Rattle.job.specs.declared.job.Job.{Job}
-use Rattle.job.specs.declared.job.Stage.{Stage}
-use Rattle.job.specs.declared.job.Stage.the-variants.{Open, Found, Looped, Binate}
+use Rattle.types.specs.declared.stage.Stage.{Stage}
+use Rattle.types.specs.declared.stage.Stage.the-variants.{Open, Found, Looped, Binate}
 use Rattle.machine.specs.Failing.{failing}
 use Rattle.machine.specs.Vector.{correctedBy, sameVector}
 use Rattle.machine.specs.Binate.{oneMore, zeros, binatePlace, binateCounts}

@@ -11,12 +11,12 @@ use lib.Seq.{getD-drop}
 use Rattle.numbers.specs.Tests.{sameBool}
 use Rattle.numbers.proofs.SumLaws.{sum-below-term}
 use Rattle.numbers.proofs.TestLaws.{same-bool-refl, all-at-most-at}
-use Rattle.table.specs.declared.table.Table.{Table}
+use Rattle.types.specs.declared.table.Table.{Table}
 use Rattle.table.specs.Table.{rows, value}
 use Rattle.table.specs.Witness.{inputLevel, onlyIf, sideSum, countOf}
 use Rattle.job.specs.declared.job.Job.{Job}
-use Rattle.job.specs.declared.job.Stage.{Stage}
-use Rattle.job.specs.declared.job.Stage.the-variants.{Open, Found, Looped, Binate}
+use Rattle.types.specs.declared.stage.Stage.{Stage}
+use Rattle.types.specs.declared.stage.Stage.the-variants.{Open, Found, Looped, Binate}
 use Rattle.job.specs.Sound.{Traced, SoundIn, Sound}
 use Rattle.machine.proofs.RangeLaws.{InRange, in-range-correct}
 

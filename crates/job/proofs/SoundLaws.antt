@@ -12,13 +12,13 @@ use lib.IntN.{ℤ, pos, _+ℤ_}
 use borrow.Author.Tests.{leb-true, le-leb, eqb-true, eq-eqb}
 use Rattle.numbers.specs.Tests.{allAtMost, allBelow, isSome}
 use Rattle.numbers.proofs.TestLaws.{no-true, and-left, and-right, and-both, all-below-at, all-below-from}
-use Rattle.table.specs.declared.table.Table.{Table}
+use Rattle.types.specs.declared.table.Table.{Table}
 use Rattle.table.specs.Witness.{sideSum, countOf, sameCounts}
 use Rattle.table.specs.Inputs.{firstTurn}
 use Rattle.table.proofs.WitnessLaws.{same-counts-correct}
 use Rattle.job.specs.declared.job.Job.{Job}
-use Rattle.job.specs.declared.job.Stage.{Stage}
-use Rattle.job.specs.declared.job.Stage.the-variants.{Open, Found, Looped, Binate}
+use Rattle.types.specs.declared.stage.Stage.{Stage}
+use Rattle.types.specs.declared.stage.Stage.the-variants.{Open, Found, Looped, Binate}
 use Rattle.machine.specs.Failing.{failing}
 use Rattle.machine.specs.Binate.{oneMore, binatePlace, binateCounts, pairMore, zeros}
 use Rattle.machine.specs.Vector.{sameZ, sameVector, zeroVector}

@@ -15,10 +15,10 @@ use Rattle.numbers.proofs.Int.{integers, parts-sub, natAbs-parts}
 use Rattle.numbers.proofs.TestLaws.{no-true, all-at-most-from}
 use Rattle.table.specs.Table.{rows, value}
 use Rattle.table.specs.Witness.{countOf}
-use Rattle.machine.specs.declared.vector.Vector.{Vector}
+use Rattle.types.specs.declared.vector.Vector.{Vector}
 use Rattle.job.specs.declared.job.Job.{Job}
-use Rattle.job.specs.declared.job.Stage.{Stage}
-use Rattle.job.specs.declared.job.Stage.the-variants.{Open, Found, Looped}
+use Rattle.types.specs.declared.stage.Stage.{Stage}
+use Rattle.types.specs.declared.stage.Stage.the-variants.{Open, Found, Looped}
 use Rattle.machine.specs.Failing.{failing}
 use Rattle.machine.specs.Vector.{sign, sameVector}
 use Rattle.job.specs.Machine.{corrected, withStage, markIf, marked, settled, closed, step}

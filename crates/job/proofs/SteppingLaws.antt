@@ -15,15 +15,15 @@ use Rattle.table.specs.declared.inputs.Found.the-variants.{Row, Nowhere}
 use Rattle.table.specs.Table.{rows, value}
 use Rattle.table.specs.Gate.{weightLimit, inRange}
 use Rattle.table.specs.Inputs.{found}
-use Rattle.machine.specs.declared.vector.Vector.{Vector}
+use Rattle.types.specs.declared.vector.Vector.{Vector}
 use Rattle.machine.specs.Failing.{failing}
 use Rattle.machine.specs.Vector.{correctedBy, sameVector}
 use Rattle.machine.specs.Binate.{oneMore}
 use Rattle.machine.specs.Power.{highest}
 use Rattle.machine.proofs.FailingLaws.{failing-some}
 use Rattle.job.specs.declared.job.Job.{Job}
-use Rattle.job.specs.declared.job.Stage.{Stage}
-use Rattle.job.specs.declared.job.Stage.the-variants as Stage′
+use Rattle.types.specs.declared.stage.Stage.{Stage}
+use Rattle.types.specs.declared.stage.Stage.the-variants as Stage′
 use Rattle.job.specs.Machine.{withStage, markIf, marked, settled, closed, step, run}
 use Rattle.job.specs.Sound.{cap, Shaped, Ranged, Sound}
 use Rattle.job.proofs.MachineLaws.{corrected-is, closed-looped, closed-on, settled-found, settled-open, found-ended, looped-ended, binate-ended, step-open, run-zero, run-suc, run-add, run-ended, run-table}

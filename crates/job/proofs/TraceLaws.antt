@@ -10,11 +10,11 @@ use lib.IntN.{ℤ, pos, negsuc, _+ℤ_, _*ℤ_}
 use Rattle.numbers.specs.Tests.{sameBool}
 use Rattle.numbers.proofs.Int.{integers, parts-add, parts-mul}
 use Rattle.numbers.proofs.SumLaws.{sum-below-most, sum-below-more}
-use Rattle.table.specs.declared.table.Table.{Table}
+use Rattle.types.specs.declared.table.Table.{Table}
 use Rattle.table.specs.Table.{rows, value}
 use Rattle.table.specs.Witness.{inputLevel, onlyIf, sideSum, countOf}
 use Rattle.table.proofs.TableLaws.{rows-le}
-use Rattle.machine.specs.declared.vector.Vector.{Vector}
+use Rattle.types.specs.declared.vector.Vector.{Vector}
 use Rattle.job.specs.declared.job.Job.{Job}
 use Rattle.machine.specs.Vector.{sign, correctedBy}
 use Rattle.machine.specs.Binate.{oneMore, zeros}

@@ -6,15 +6,15 @@ use Prim.Native.Nat.{ℕ, _+_, _-_}
 use lib.Dec.{ltb, eqb}
 use lib.ListN.{replicate}
 use lib.IntN.{pos}
-use Rattle.table.specs.declared.table.Table.{Table}
-use Rattle.table.specs.declared.gate.Gate.{Gate}
-use Rattle.table.specs.declared.witness.Witness.{Witness}
+use Rattle.types.specs.declared.table.Table.{Table}
+use Rattle.types.specs.declared.gate.Gate.{Gate}
+use Rattle.types.specs.declared.witness.Witness.{Witness}
 use Rattle.cell.specs.Refusal.{Rule, rule, Answered, answered, refused, checked}
 use Rattle.cell.specs.Calls.{tableRules}
 use Rattle.cell.specs.declared.refusal.Status.the-variants as Status′
 use Rattle.job.specs.declared.job.Job.{Job}
-use Rattle.job.specs.declared.job.Stage.{Stage}
-use Rattle.job.specs.declared.job.Stage.the-variants.{Open, Found, Looped, Binate}
+use Rattle.types.specs.declared.stage.Stage.{Stage}
+use Rattle.types.specs.declared.stage.Stage.the-variants.{Open, Found, Looped, Binate}
 use Rattle.job.specs.declared.job.Started.{Started}
 use Rattle.job.specs.declared.job.Carried.{Carried}
 use Rattle.job.specs.Machine.{run, fresh, startJob}

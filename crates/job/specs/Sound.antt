@@ -8,14 +8,14 @@ use lib.Dec.{leb, eqb}
 use lib.ListN.{length, drop}
 use lib.IntN.{pos, _+ℤ_}
 use Rattle.numbers.specs.Tests.{allAtMost, allBelow, isSome}
-use Rattle.table.specs.declared.table.Table.{Table}
+use Rattle.types.specs.declared.table.Table.{Table}
 use Rattle.table.specs.Table.{rows}
 use Rattle.table.specs.Gate.{inRange}
 use Rattle.table.specs.Witness.{sideSum, countOf, sameCounts}
-use Rattle.machine.specs.declared.vector.Vector.{Vector}
+use Rattle.types.specs.declared.vector.Vector.{Vector}
 use Rattle.job.specs.declared.job.Job.{Job}
-use Rattle.job.specs.declared.job.Stage.{Stage}
-use Rattle.job.specs.declared.job.Stage.the-variants.{Open, Found, Looped, Binate}
+use Rattle.types.specs.declared.stage.Stage.{Stage}
+use Rattle.types.specs.declared.stage.Stage.the-variants.{Open, Found, Looped, Binate}
 use Rattle.machine.specs.Failing.{failing}
 use Rattle.machine.specs.Vector.{sameZ, sameVector, zeroVector, component}
 use Rattle.machine.specs.Power.{highest}

@@ -2,7 +2,7 @@
 use crate::job::Job;
 use crate::start::fresh_job;
 use crate::stepping::steps;
-use table::table::Table;
+use types::table::Table;
 ghost use mathlib.Core.Path.{_≡_};
 ghost use Prim.Native.Nat.{_≤_};
 ghost use Rattle.machine.specs.Scan.{Holds};

@@ -1,6 +1,5 @@
 // A chunk of steps in the fast form: the vectors are sums in places of 16 bits, and become vectors again at its end.
 use crate::core::Core;
-use crate::job::Stage;
 use lanes::correction::correct;
 use lanes::keys::lane_values;
 use lanes::keys::store_keys;
@@ -10,8 +9,9 @@ use lanes::sums::same_sums;
 use lanes::sums::sums_of;
 use lanes::sums::vector_of;
 use machine::power::top_power;
-use table::table::Table;
 use table::table::row_count;
+use types::stage::Stage;
+use types::table::Table;
 ghost use mathlib.Core.Path.{_≡_};
 ghost use mathlib.Core.List.{_++_};
 ghost use Prim.Native.Nat.{_+_, _≤_, _<_};

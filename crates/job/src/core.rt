@@ -1,8 +1,8 @@
 // A job taken apart: its table, its core and its counts, so that the counts can be lent.
 use crate::job::Job;
-use crate::job::Stage;
-use machine::vector::Vector;
-use table::table::Table;
+use types::stage::Stage;
+use types::table::Table;
+use types::vector::Vector;
 ghost use mathlib.Core.Path.{_≡_};
 ghost use Rattle.job.specs.Core.{jobOf};
 

@@ -8,20 +8,13 @@ use crate::stepping::steps;
 use cell::refusal::Status;
 use cell::refusal::table_status;
 use lanes::steps::step_table;
-use machine::vector::Vector;
-use table::table::Table;
+use types::stage::Stage;
+use types::table::Table;
+use types::vector::Vector;
 ghost use mathlib.Core.Path.{_≡_};
 ghost use Rattle.cell.specs.Answers.{status};
 ghost use Rattle.cell.specs.Refusal.{refused};
 ghost use Rattle.job.specs.Calls.{jobChecked, freshJob, started, decidedJob, carryOn, carried};
-
-// Where the machine stands: still open, or ended with a gate, with a cycle that is a witness, or at once with a binate input.
-pub enum Stage {
-    Open,
-    Found,
-    Looped,
-    Binate,
-}
 
 // K corrections made (k), the vector v, the mark M with the copy s of v taken there, and a count for each row since.
 pub struct Job {

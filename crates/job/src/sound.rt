@@ -1,21 +1,21 @@
 // The test that a job is sound, whatever it holds.
 use crate::job::Job;
-use crate::job::Stage;
 use machine::binate::binate_counts;
 use machine::binate::binate_place;
 use machine::power::top_power;
 use machine::scan::first_failing;
 use machine::scan::row_values;
-use machine::vector::Vector;
 use machine::vector::same_vector;
 use machine::vector::vector_within;
 use table::inputs::Found;
 use table::inputs::is_row;
-use table::table::Table;
 use table::table::row_count;
 use table::witness::counts_within;
 use table::witness::same_counts;
 use trace::traced::is_traced;
+use types::stage::Stage;
+use types::table::Table;
+use types::vector::Vector;
 ghost use mathlib.Core.Path.{_≡_};
 ghost use mathlib.Core.Bool.{true, false, not, _&&_, _||_};
 ghost use Prim.Native.Nat.{_+_, _≤_, _<_};

@@ -1,11 +1,11 @@
 // The job that a table starts with.
 use crate::job::Job;
-use crate::job::Stage;
 use machine::binate::binate_counts;
 use machine::binate::binate_place;
-use machine::vector::Vector;
 use table::inputs::Found;
-use table::table::Table;
+use types::stage::Stage;
+use types::table::Table;
+use types::vector::Vector;
 ghost use mathlib.Core.Path.{_≡_};
 ghost use Prim.Native.Nat.{_≤_};
 ghost use Rattle.job.specs.Machine.{startJob, fresh};

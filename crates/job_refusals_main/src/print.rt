@@ -1,8 +1,8 @@
 // The parts of an answer on standard output.
 use cell::refusal::Status;
 use job::job::Job;
-use machine::vector::Vector;
 use samples::compare::letter;
+use types::vector::Vector;
 use vectors::show;
 use view::shown::Verdict;
 

@@ -2,7 +2,7 @@
 use job::job::Job;
 use samples::compare::letter;
 use samples::compare::same_job;
-use table::table::Table;
+use types::table::Table;
 use vectors::show;
 
 // The most calls: with budgets 1 to 400 they make up to 80,200 corrections.

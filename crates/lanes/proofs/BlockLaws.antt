@@ -19,11 +19,11 @@ use Rattle.numbers.proofs.SumLaws.{weighted-sum-nil, weighted-sum-cons, weighte
 use Rattle.numbers.proofs.TabulateLaws.{getD-tabulate}
 use Rattle.numbers.proofs.TestLaws.{no-true}
 use Rattle.numbers.proofs.FirstLaws.{IsFirst}
-use Rattle.table.specs.declared.table.Table.{Table}
+use Rattle.types.specs.declared.table.Table.{Table}
 use Rattle.table.specs.Table.{rows, level, value}
 use Rattle.table.specs.Gate.{distance, inRange}
 use Rattle.table.proofs.TableLaws.{level-past}
-use Rattle.machine.specs.declared.vector.Vector.{Vector}
+use Rattle.types.specs.declared.vector.Vector.{Vector}
 use Rattle.machine.specs.Failing.{margin, fails, failing}
 use Rattle.machine.proofs.RangeLaws.{in-range-correct, in-range-past}
 use Rattle.machine.proofs.FailingLaws.{failing-at, none-failing}

@@ -17,7 +17,7 @@ use Rattle.numbers.specs.Tabulate.{tabulate}
 use Rattle.numbers.proofs.TabulateLaws.{length-tabulate, getD-tabulate, tabulate-ext, getD-unfilled}
 use Rattle.table.specs.Table.{level}
 use Rattle.table.specs.Gate.{distance}
-use Rattle.machine.specs.declared.vector.Vector.{Vector}
+use Rattle.types.specs.declared.vector.Vector.{Vector}
 use Rattle.machine.specs.Vector.{sign, addLevels, correctedBy}
 use Rattle.machine.proofs.VectorLaws.{corrected-weights, corrected-threshold}
 use Rattle.machine.specs.Scan.{Holds}

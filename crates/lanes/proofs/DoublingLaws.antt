@@ -15,7 +15,7 @@ use Rattle.numbers.proofs.TabulateLaws.{tabulate-getD}
 use Rattle.table.specs.Table.{level}
 use Rattle.table.specs.Gate.{distance}
 use Rattle.table.proofs.TableLaws.{level-past}
-use Rattle.machine.specs.declared.vector.Vector.{Vector}
+use Rattle.types.specs.declared.vector.Vector.{Vector}
 use Rattle.machine.proofs.DistanceLaws.{partner-distance}
 use Rattle.lanes.specs.Sums.{placeSum, vectorSums, magnitude, Doubled}
 use Rattle.lanes.proofs.SumsLaws.{place-low, place-high, sums-low, sums-high, row-zero, high-partner, sums-narrow}

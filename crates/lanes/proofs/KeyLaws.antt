@@ -21,7 +21,7 @@ use Rattle.numbers.specs.Tests.{firstFrom}
 use Rattle.numbers.proofs.Int.{integers, parts-neg, parts-add, parts-sub, ≤ℤ-trans, pos-nonneg}
 use Rattle.numbers.proofs.TestLaws.{no-true, not-passed}
 use Rattle.numbers.proofs.FirstLaws.{IsFirst, first-some, first-none}
-use Rattle.table.specs.declared.table.Table.{Table}
+use Rattle.types.specs.declared.table.Table.{Table}
 use Rattle.machine.specs.Failing.{margin}
 use Rattle.machine.specs.Scan.{Holds}
 use Rattle.lanes.specs.Blocks.{laneValue}

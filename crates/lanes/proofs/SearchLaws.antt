@@ -11,9 +11,9 @@ use lib.Seq.{getD-take, getD-drop}
 use lib.IntN.{ℤ, pos, natAbs, _+ℤ_, _-ℤ_}
 use lib.Signed.{ltZ}
 use Rattle.numbers.proofs.FirstLaws.{IsFirst}
-use Rattle.table.specs.declared.table.Table.{Table}
+use Rattle.types.specs.declared.table.Table.{Table}
 use Rattle.table.specs.Gate.{distance, inRange}
-use Rattle.machine.specs.declared.vector.Vector.{Vector}
+use Rattle.types.specs.declared.vector.Vector.{Vector}
 use Rattle.machine.specs.Failing.{failing}
 use Rattle.machine.specs.Scan.{Holds}
 use Rattle.lanes.specs.Blocks.{blocksOf, laneRows, laneValue}

@@ -20,7 +20,7 @@ use Rattle.table.specs.Table.{level}
 use Rattle.table.specs.Gate.{distance}
 use Rattle.table.specs.Witness.{inputLevel}
 use Rattle.table.proofs.TableLaws.{level-lt, level-past}
-use Rattle.machine.specs.declared.vector.Vector.{Vector}
+use Rattle.types.specs.declared.vector.Vector.{Vector}
 use Rattle.machine.specs.Vector.{sign, component, correctedBy}
 use Rattle.machine.proofs.VectorLaws.{component-corrected}
 use Rattle.machine.proofs.DistanceLaws.{partner-distance}

@@ -13,7 +13,7 @@ use Rattle.numbers.proofs.Int.{integers, parts-add, parts-sub}
 use Rattle.table.specs.Table.{level}
 use Rattle.table.specs.Gate.{distance}
 use Rattle.table.proofs.TableLaws.{level-past}
-use Rattle.machine.specs.declared.vector.Vector.{Vector}
+use Rattle.types.specs.declared.vector.Vector.{Vector}
 use Rattle.machine.proofs.VectorLaws.{vector-eq}
 use Rattle.machine.proofs.RangeLaws.{InRange, in-range-past}
 use Rattle.machine.proofs.DistanceLaws.{partner-distance, distance-zero}

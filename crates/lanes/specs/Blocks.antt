@@ -2,7 +2,7 @@
 -- rows. For the inside of the machine alone. Definitions only. Assumes nothing.
 use mathlib.Core.Bool.{Bool}
 use Prim.Native.Nat.{ℕ, _*_, _-_, _%_, _^_}
-use Rattle.table.specs.declared.table.Table.{Table}
+use Rattle.types.specs.declared.table.Table.{Table}
 use Rattle.table.specs.Table.{rows, value}
 
 -- the blocks of n inputs

@@ -11,7 +11,7 @@ use Rattle.numbers.specs.Sum.{sumBelow, weightedSum}
 use Rattle.numbers.specs.Tabulate.{tabulate}
 use Rattle.table.specs.Table.{level}
 use Rattle.table.specs.Gate.{distance}
-use Rattle.machine.specs.declared.vector.Vector.{Vector}
+use Rattle.types.specs.declared.vector.Vector.{Vector}
 
 -- place q: below 32 the distance of row q; from 32 on what the true inputs of row 32 (q − 32) add up to, which are higher ones alone
 unfoldable pub placeSum : Vector → ℕ → ℤ

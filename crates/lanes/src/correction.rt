@@ -6,7 +6,7 @@ ghost use Prim.Native.Nat.{ℕ, _+_, _^_, _<_};
 ghost use lib.ListN.{length, getD, take, drop};
 ghost use lib.IntN.{pos, natAbs, _+ℤ_, _-ℤ_};
 ghost use Rattle.numbers.specs.Tabulate.{tabulate};
-ghost use Rattle.machine.specs.declared.vector.Vector.{Vector};
+ghost use Rattle.types.specs.declared.vector.Vector.{Vector};
 ghost use Rattle.machine.specs.Vector.{correctedBy};
 ghost use Rattle.machine.specs.Scan.{Holds};
 ghost use Rattle.lanes.specs.Sums.{vectorSums, Narrow};

@@ -1,9 +1,9 @@
 // What the search keeps of a table: for each row of its blocks the value, what is taken from the distance, and the key.
 use crate::block::block_count;
 use machine::scan::byte_values;
-use table::table::Table;
 use table::table::byte_count;
 use table::table::row_count;
+use types::table::Table;
 ghost use mathlib.Core.Path.{_≡_};
 ghost use mathlib.Core.Bool.{false};
 ghost use Prim.Native.Nat.{ℕ, _%_, _≤_, _<_};

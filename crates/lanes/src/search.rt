@@ -1,6 +1,6 @@
 // The search for the lowest failing row: all 32 rows of a block at once, block after block.
 use crate::block::block_count;
-use table::table::Table;
+use types::table::Table;
 ghost use mathlib.Core.Path.{_≡_};
 ghost use mathlib.Core.Bool.{true};
 ghost use Prim.Native.Nat.{ℕ, _+_, _^_, _≤_, _<_};
@@ -8,7 +8,7 @@ ghost use lib.ListN.{length, getD};
 ghost use lib.IntN.{pos, natAbs, _+ℤ_};
 ghost use lib.Signed.{ltZ};
 ghost use Rattle.table.specs.Gate.{inRange};
-ghost use Rattle.machine.specs.declared.vector.Vector.{Vector};
+ghost use Rattle.types.specs.declared.vector.Vector.{Vector};
 ghost use Rattle.machine.specs.Failing.{failing};
 ghost use Rattle.machine.specs.Scan.{Holds};
 ghost use Rattle.lanes.specs.Blocks.{laneRows};

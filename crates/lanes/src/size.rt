@@ -1,5 +1,5 @@
 // The size of a vector.
-use machine::vector::Vector;
+use types::vector::Vector;
 ghost use mathlib.Core.Path.{_≡_};
 ghost use mathlib.Core.Bool.{true};
 ghost use Prim.Native.Nat.{_≤_};

@@ -1,6 +1,6 @@
 // A vector as 40 sums.
 use crate::block::block_count;
-use machine::vector::Vector;
+use types::vector::Vector;
 ghost use mathlib.Core.Path.{_≡_};
 ghost use mathlib.Core.Bool.{true};
 ghost use Prim.Native.Nat.{ℕ, _+_, _^_, _≤_, _<_};

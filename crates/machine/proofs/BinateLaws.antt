@@ -9,7 +9,7 @@ use native.Mathlib.Omega.{arith}
 use lib.ListN.{getD, replicate}
 use Rattle.numbers.proofs.FirstLaws.{first-some}
 use Rattle.numbers.specs.Tests.{firstFrom, isSome}
-use Rattle.table.specs.declared.table.Table.{Table}
+use Rattle.types.specs.declared.table.Table.{Table}
 use Rattle.table.specs.Inputs.{firstTurn, found}
 use Rattle.table.proofs.TableLaws.{rows-le, partner-below}
 use Rattle.table.proofs.InputLaws.{turns-at-correct, first-turn-some}

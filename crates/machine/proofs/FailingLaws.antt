@@ -8,9 +8,9 @@ use lib.IntN.{ℤ, pos, negsuc, negℤ}
 use lib.Signed.{ltZ}
 use Rattle.numbers.proofs.Int.{integers, parts-neg}
 use Rattle.numbers.proofs.FirstLaws.{IsFirst, first-some, first-none, first-at, first-fails}
-use Rattle.table.specs.declared.table.Table.{Table}
+use Rattle.types.specs.declared.table.Table.{Table}
 use Rattle.table.specs.Table.{rows}
-use Rattle.machine.specs.declared.vector.Vector.{Vector}
+use Rattle.types.specs.declared.vector.Vector.{Vector}
 use Rattle.machine.specs.Failing.{fails, failing}
 
 -- −1 is below d exactly if −d is below 1

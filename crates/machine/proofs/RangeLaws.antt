@@ -16,7 +16,7 @@ use Rattle.numbers.proofs.TestLaws.{and-left, and-right, and-both, all-below-at
 use Rattle.table.specs.Table.{level}
 use Rattle.table.specs.Gate.{within, placeLimit, inRange}
 use Rattle.table.proofs.TableLaws.{level-lt, level-past}
-use Rattle.machine.specs.declared.vector.Vector.{Vector}
+use Rattle.types.specs.declared.vector.Vector.{Vector}
 use Rattle.machine.specs.Vector.{sign, correctedBy, zeroVector}
 use Rattle.machine.proofs.VectorLaws.{corrected-weights, corrected-threshold, getD-add-levels}
 

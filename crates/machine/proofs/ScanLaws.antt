@@ -18,13 +18,13 @@ use Rattle.numbers.specs.Tests.{firstFrom}
 use Rattle.numbers.specs.Tabulate.{tabulate}
 use Rattle.numbers.proofs.FirstLaws.{IsFirst, first-some, first-none}
 use Rattle.numbers.proofs.TabulateLaws.{getD-tabulate}
-use Rattle.table.specs.declared.table.Table.{Table}
+use Rattle.types.specs.declared.table.Table.{Table}
 use Rattle.table.specs.declared.inputs.Found.the-variants.{Row, Nowhere}
 use Rattle.table.specs.Table.{rows, value}
 use Rattle.table.specs.Gate.{distance}
 use Rattle.table.specs.Inputs.{found}
 use Rattle.table.proofs.TableLaws.{rows-le, level-past}
-use Rattle.machine.specs.declared.vector.Vector.{Vector}
+use Rattle.types.specs.declared.vector.Vector.{Vector}
 use Rattle.machine.specs.Failing.{margin, fails, failing}
 use Rattle.machine.specs.Scan.{failsAt, Holds, doubled}
 use Rattle.machine.proofs.DistanceLaws.{partner-distance}

@@ -14,7 +14,7 @@ use lib.Dec.{eqb}
 use borrow.Author.Tests.{lt-ltb, le-ltb, eqb-true, ne-eqb}
 use Rattle.numbers.specs.Tests.{isSome, sameBool}
 use Rattle.numbers.proofs.TestLaws.{no-true, or-neither, or-false-left, or-false-right}
-use Rattle.table.specs.declared.table.Table.{Table}
+use Rattle.types.specs.declared.table.Table.{Table}
 use Rattle.table.specs.Table.{rows, value}
 use Rattle.table.specs.Inputs.{turnsAt, firstTurn}
 use Rattle.table.proofs.TableLaws.{rows-le, partner-below}

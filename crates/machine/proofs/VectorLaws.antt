@@ -16,7 +16,7 @@ use Rattle.numbers.proofs.TestLaws.{and-left, and-right, and-both, not-passed, 
 use Rattle.numbers.proofs.TabulateLaws.{tabulate-getD}
 use Rattle.table.specs.Table.{level}
 use Rattle.table.specs.Witness.{inputLevel}
-use Rattle.machine.specs.declared.vector.Vector.{Vector}
+use Rattle.types.specs.declared.vector.Vector.{Vector}
 use Rattle.machine.specs.Vector.{sign, addLevels, correctedBy, sameZ, sameList, sameVector}
 use Rattle.machine.specs.Binate.{oneMore}
 use Rattle.machine.specs.Vector.{component}

@@ -6,7 +6,7 @@ use mathlib.Core.Option.{Option, some, none}
 use Prim.Native.Nat.{ℕ, _+_, _^_}
 use lib.ListN.{getD, set, replicate}
 use Rattle.numbers.specs.Tests.{firstFrom, isSome}
-use Rattle.table.specs.declared.table.Table.{Table}
+use Rattle.types.specs.declared.table.Table.{Table}
 use Rattle.table.specs.Inputs.{firstTurn}
 
 -- a count with 1 added at row r

@@ -5,10 +5,10 @@ use Prim.Native.Nat.{ℕ}
 use lib.IntN.{ℤ, pos, negℤ}
 use lib.Signed.{ltZ}
 use Rattle.numbers.specs.Tests.{firstFrom}
-use Rattle.table.specs.declared.table.Table.{Table}
+use Rattle.types.specs.declared.table.Table.{Table}
 use Rattle.table.specs.Table.{rows, value}
 use Rattle.table.specs.Gate.{distance}
-use Rattle.machine.specs.declared.vector.Vector.{Vector}
+use Rattle.types.specs.declared.vector.Vector.{Vector}
 
 -- the margin of a row, by its value and its distance d: d signed so that it is positive on the right side
 abbrev pub margin : Bool → ℤ → ℤ

@@ -7,7 +7,7 @@ use lib.ListN.{getD, replicate}
 use lib.IntN.{ℤ, pos, negsuc, negℤ, _+ℤ_, _-ℤ_, _*ℤ_}
 use lib.Signed.{leZ}
 use Rattle.table.specs.Table.{level}
-use Rattle.machine.specs.declared.vector.Vector.{Vector}
+use Rattle.types.specs.declared.vector.Vector.{Vector}
 
 -- 1 on a true row, −1 on a false row
 abbrev pub sign : Bool → ℤ

@@ -3,7 +3,7 @@ use crate::words::pairs_at;
 use crate::words::row_words;
 use table::inputs::Found;
 use table::inputs::first_turn;
-use table::table::Table;
+use types::table::Table;
 ghost use mathlib.Core.Path.{_≡_};
 ghost use mathlib.Core.Option.{Option, some};
 ghost use Prim.Native.Nat.{ℕ, _+_, _^_, _≤_, _<_};

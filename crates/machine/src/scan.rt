@@ -1,8 +1,8 @@
 // The search for the lowest failing row: the distances of the rows are made one from another, in the order of the rows, and the search
 // stops at the first that fails.
-use crate::vector::Vector;
 use table::inputs::Found;
-use table::table::Table;
+use types::table::Table;
+use types::vector::Vector;
 ghost use mathlib.Core.Path.{_≡_};
 ghost use mathlib.Core.Bool.{true};
 ghost use Prim.Native.Nat.{ℕ, _+_, _*_, _^_, _≤_, _<_};

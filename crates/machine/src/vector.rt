@@ -1,15 +1,11 @@
 // The vector v = (a1..an, b) of a job: a weight for each place, and the threshold.
 use table::gate::in_range;
+use types::vector::Vector;
 ghost use mathlib.Core.Path.{_≡_};
 ghost use mathlib.Core.Bool.{true};
 ghost use Prim.Native.Nat.{_<_};
 ghost use Rattle.table.specs.Gate.{weightLimit, inRange};
 ghost use Rattle.machine.specs.Vector.{correctedBy, sameVector};
-
-pub struct Vector {
-    pub a: [i32; 8],
-    pub b: i32,
-}
 
 // Returns v after the correction by a row of this value: 1 is added to the weights of its true inputs and taken from b; on a false
 // row the reverse.

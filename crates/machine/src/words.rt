@@ -1,6 +1,6 @@
 // The values of a table's rows as bits: row r is bit r mod 64 of word r div 64, so that one operation serves 64 rows.
-use table::table::Table;
 use table::table::row_count;
+use types::table::Table;
 ghost use mathlib.Core.Path.{_≡_};
 ghost use mathlib.Core.Bool.{Bool};
 ghost use Prim.Native.Nat.{ℕ, _*_, _≤_, _<_};

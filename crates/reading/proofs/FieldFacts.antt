@@ -4,11 +4,11 @@ use mathlib.Core.Path.{_≡_, refl, sym, _∙_, ap}
 use Prim.Native.Nat.{ℕ}
 use native.Mathlib.Omega.{arith}
 use lib.IntN.{ℤ}
-use Rattle.table.specs.declared.table.Table.{Table}
+use Rattle.types.specs.declared.table.Table.{Table}
 use Rattle.cell.specs.declared.refusal.Status.{Status}
 use Rattle.cell.specs.declared.refusal.Status.the-variants as Status′
 use Rattle.cell.specs.Refusal.{answered, refused}
-use Rattle.machine.specs.declared.vector.Vector.{Vector}
+use Rattle.types.specs.declared.vector.Vector.{Vector}
 use Rattle.codec.specs.Field.{Field, Reading, field}
 use Rattle.codec.specs.RowList.{RowList, Pair}
 use Rattle.codec.specs.Head.{Head}

@@ -11,7 +11,7 @@ use lib.Dec.{leb, ltb}
 use lib.ListN.{length, getD, set, take, drop, replicate, length-drop, length-replicate, replicate-append-replicate}
 use lib.Seq.{paste-suc, drop-at, length-take-le, getD-drop}
 use borrow.Author.Tests.{lt-ltb, le-ltb}
-use Rattle.table.specs.declared.table.Table.{Table}
+use Rattle.types.specs.declared.table.Table.{Table}
 use Rattle.table.specs.Table.{byteCount, spareSet}
 use Rattle.cell.specs.Refusal.{answered, refused}
 use Rattle.codec.specs.Field.{Field, field}

@@ -9,7 +9,7 @@ use native.Mathlib.Omega.{arith}
 use lib.ListN.{set, replicate}
 use lib.IntN.{ℤ, pos}
 use Rattle.cell.specs.Refusal.{answered, refused}
-use Rattle.machine.specs.declared.vector.Vector.{Vector}
+use Rattle.types.specs.declared.vector.Vector.{Vector}
 use Rattle.codec.specs.Field.{Field, Reading, field, onward}
 use Rattle.codec.specs.VectorField.{signedAt, weightsAt, vectorAt}
 

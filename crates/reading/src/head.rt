@@ -1,9 +1,9 @@
 // The head of a record: its kind and its table.
 use crate::number::read_number;
 use cell::refusal::Status;
-use table::table::Table;
 use table::table::byte_count;
 use table::table::spare_set;
+use types::table::Table;
 ghost use mathlib.Core.Path.{_≡_};
 ghost use Prim.Native.Nat.{_+_, _≤_};
 ghost use lib.ListN.{length, take, drop};

@@ -1,8 +1,8 @@
 // Weights and thresholds, and the vectors of a job.
 use crate::number::read_number;
 use cell::refusal::Status;
-use machine::vector::Vector;
 use table::gate::WEIGHT_LIMIT;
+use types::vector::Vector;
 ghost use mathlib.Core.Path.{_≡_};
 ghost use Prim.Native.Nat.{_≤_, _<_};
 ghost use Rattle.table.specs.Gate.{weightLimit, within};

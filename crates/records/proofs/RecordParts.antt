@@ -8,15 +8,15 @@ use native.Mathlib.Omega.{arith}
 use lib.ListN.{length, drop}
 use Rattle.numbers.specs.Tests.{allAtMost}
 use Rattle.numbers.proofs.TestLaws.{no-true, all-at-most-from}
-use Rattle.table.specs.declared.table.Table.{Table}
-use Rattle.table.specs.declared.witness.Witness.{Witness}
+use Rattle.types.specs.declared.table.Table.{Table}
+use Rattle.types.specs.declared.witness.Witness.{Witness}
 use Rattle.table.specs.Table.{rows}
 use Rattle.table.specs.Gate.{weightLimit, inRange}
 use Rattle.table.specs.Witness.{unfit, countLimit}
 use Rattle.machine.proofs.RangeLaws.{in-range-correct, in-range-wider}
 use Rattle.job.specs.declared.job.Job.{Job}
-use Rattle.job.specs.declared.job.Stage.{Stage}
-use Rattle.job.specs.declared.job.Stage.the-variants.{Open, Found, Looped, Binate}
+use Rattle.types.specs.declared.stage.Stage.{Stage}
+use Rattle.types.specs.declared.stage.Stage.the-variants.{Open, Found, Looped, Binate}
 use Rattle.job.specs.Sound.{Sound}
 use Rattle.job.proofs.MachineLaws.{binate-ended}
 use Rattle.job.proofs.SoundBounds.{sound-current, sound-copied, sound-count}

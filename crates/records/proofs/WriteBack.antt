@@ -9,7 +9,7 @@ use lib.ListN.{length, drop}
 use borrow.Author.Tests.{le-ltb, ltb-false, not-false, eq-eqb}
 use Rattle.numbers.specs.Tests.{allAtMost}
 use Rattle.numbers.proofs.TestLaws.{and-left, and-right}
-use Rattle.table.specs.declared.table.Table.{Table}
+use Rattle.types.specs.declared.table.Table.{Table}
 use Rattle.table.specs.Table.{rows}
 use Rattle.table.specs.Witness.{unfit, countLimit}
 use Rattle.table.proofs.TableLaws.{rows-le}
@@ -17,7 +17,7 @@ use Rattle.cell.specs.Refusal.{Rule, answered, checked, NoneBroken, none, also}
 use Rattle.cell.specs.Calls.{tableRules}
 use Rattle.cell.proofs.RefusalLaws.{none-broken-answered}
 use Rattle.cell.proofs.TableChecked.{kept-inputs, all-kept}
-use Rattle.machine.specs.declared.vector.Vector.{Vector}
+use Rattle.types.specs.declared.vector.Vector.{Vector}
 use Rattle.job.specs.Sound.{isSound}
 use Rattle.job.proofs.JobChecked.{job-all-kept}
 use Rattle.codec.specs.Field.{Field, field}

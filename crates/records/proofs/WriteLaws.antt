@@ -8,12 +8,12 @@ use native.Mathlib.Omega.{arith}
 use lib.ListN.{length, take, drop, length-append, length-take, length-drop}
 use lib.Seq.{length-take-le}
 use borrow.Author.Tests.{lt-ltb, le-ltb}
-use Rattle.table.specs.declared.table.Table.{Table}
+use Rattle.types.specs.declared.table.Table.{Table}
 use Rattle.table.specs.Table.{byteCount}
 use Rattle.table.proofs.TableLaws.{bytes-le}
 use Rattle.cell.specs.Refusal.{Answered, answered, refused, checked}
 use Rattle.cell.proofs.RefusalLaws.{rule-broken, rule-kept}
-use Rattle.machine.specs.declared.vector.Vector.{Vector}
+use Rattle.types.specs.declared.vector.Vector.{Vector}
 use Rattle.codec.specs.Field.{writtenAt}
 use Rattle.codec.specs.Number.{signedCode}
 use Rattle.codec.specs.VectorField.{vectorBytes}

@@ -4,15 +4,15 @@ use mathlib.Core.List.{List, [], _∷_, _++_}
 use Prim.Native.Nat.{ℕ, zero, suc}
 use lib.Dec.{ltb}
 use lib.ListN.{length}
-use Rattle.table.specs.declared.table.Table.{Table}
-use Rattle.table.specs.declared.gate.Gate.{Gate}
-use Rattle.table.specs.declared.witness.Witness.{Witness}
+use Rattle.types.specs.declared.table.Table.{Table}
+use Rattle.types.specs.declared.gate.Gate.{Gate}
+use Rattle.types.specs.declared.witness.Witness.{Witness}
 use Rattle.table.specs.Table.{rows}
 use Rattle.cell.specs.Refusal.{Rule, rule, Answered, answered, checked}
-use Rattle.machine.specs.declared.vector.Vector.{Vector}
+use Rattle.types.specs.declared.vector.Vector.{Vector}
 use Rattle.machine.specs.Power.{highest}
 use Rattle.job.specs.declared.job.Job.{Job}
-use Rattle.job.specs.declared.job.Stage.the-variants.{Open}
+use Rattle.types.specs.declared.stage.Stage.the-variants.{Open}
 use Rattle.job.specs.Sound.{isSound}
 use Rattle.codec.specs.Field.{Reading, field, onward}
 use Rattle.codec.specs.Number.{numberBytes, numberAt}

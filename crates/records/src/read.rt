@@ -1,18 +1,18 @@
 // A record read from a slice.
 use cell::refusal::Status;
 use job::job::Job;
-use job::job::Stage;
 use job::job::job_status;
 use machine::power::top_power;
-use machine::vector::Vector;
 use reading::head::read_head;
 use reading::number::read_number;
 use reading::rows::read_rows;
 use reading::vector::read_vector;
-use table::gate::Gate;
-use table::table::Table;
 use table::table::row_count;
-use table::witness::Witness;
+use types::gate::Gate;
+use types::stage::Stage;
+use types::table::Table;
+use types::vector::Vector;
+use types::witness::Witness;
 ghost use mathlib.Core.Path.{_≡_};
 ghost use mathlib.Core.List.{[]};
 ghost use Prim.Native.Nat.{_≤_};

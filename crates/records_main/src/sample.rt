@@ -2,8 +2,6 @@
 // says what of the job is the record: T the table, G the table with the gate whose weights and T are v, W the table with the witness
 // whose counts are the job's, else the job after one carry-on by the line's budget. In the place of the row stands the gate's n.
 use job::job::Job;
-use job::job::Stage;
-use machine::vector::Vector;
 use records::read::Kind;
 use records::read::Read;
 use records::write::Written;
@@ -15,10 +13,12 @@ use samples::compare::is_gate_of;
 use samples::compare::same_job;
 use samples::compare::same_table;
 use samples::make;
-use table::gate::Gate;
-use table::table::Table;
-use table::witness::Witness;
 use table::witness::same_counts;
+use types::gate::Gate;
+use types::stage::Stage;
+use types::table::Table;
+use types::vector::Vector;
+use types::witness::Witness;
 use vectors::text::first;
 use vectors::text::word;
 

@@ -4,8 +4,8 @@ use crate::make;
 use crate::show;
 use cell::checker::check_gate;
 use cell::value::gate_value;
-use table::gate::Gate;
-use table::table::Table;
+use types::gate::Gate;
+use types::table::Table;
 ghost use Prim.Native.Nat.{_<_};
 
 // The limits of a weight, what lies just beyond them, and the ends of the type, at each place.

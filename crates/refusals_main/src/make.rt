@@ -1,7 +1,7 @@
 // Tables, gates and witnesses that hold 0 but in one place.
-use table::gate::Gate;
-use table::table::Table;
-use table::witness::Witness;
+use types::gate::Gate;
+use types::table::Table;
+use types::witness::Witness;
 ghost use Prim.Native.Nat.{_<_};
 
 // Returns the table with one byte.

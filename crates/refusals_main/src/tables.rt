@@ -6,9 +6,9 @@ use cell::checker::check_witness;
 use cell::chow::chow_parameters;
 use cell::inputs::input_kinds;
 use cell::value::table_value;
-use table::inputs::InputKind;
-use table::inputs::Place;
-use table::table::Table;
+use types::inputs::InputKind;
+use types::inputs::Place;
+use types::table::Table;
 ghost use Prim.Native.Nat.{_<_};
 
 // n: 8 is accepted, 9 and more are 2, also where a bit is set that 3 would name.

@@ -2,8 +2,8 @@
 use crate::make;
 use crate::show;
 use cell::checker::check_witness;
-use table::table::Table;
-use table::witness::Witness;
+use types::table::Table;
+use types::witness::Witness;
 ghost use Prim.Native.Nat.{_<_};
 
 // All counts 0; then the limit of a count, what lies just beyond it and the end of the type, on the first row and on the last.

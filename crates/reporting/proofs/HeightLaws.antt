@@ -9,7 +9,7 @@ use native.Mathlib.Omega.{arith}
 use lib.Count.{ones, ones-le}
 use Rattle.numbers.specs.Sum.{sumBelow}
 use Rattle.numbers.proofs.SumLaws.{sum-below-most}
-use Rattle.table.specs.declared.table.Table.{Table}
+use Rattle.types.specs.declared.table.Table.{Table}
 use Rattle.table.specs.Table.{rows, value}
 use Rattle.table.specs.Witness.{onlyIf, countOf}
 use Rattle.table.proofs.TableLaws.{rows-le}

@@ -16,8 +16,8 @@ use Rattle.table.specs.Table.{rows}
 use Rattle.table.specs.Witness.{countOf}
 use Rattle.table.proofs.TableLaws.{rows-le}
 use Rattle.job.specs.declared.job.Job.{Job}
-use Rattle.job.specs.declared.job.Stage.{Stage}
-use Rattle.job.specs.declared.job.Stage.the-variants.{Open, Found, Looped, Binate}
+use Rattle.types.specs.declared.stage.Stage.{Stage}
+use Rattle.types.specs.declared.stage.Stage.the-variants.{Open, Found, Looped, Binate}
 use Rattle.reporting.specs.Text.{decimal, signedText}
 use Rattle.reporting.specs.Lines.{lineRoom, size, weightsText, gateText, height, pairText, pairsText, witnessText, openText, verdictText, recordLine}
 use Rattle.reporting.proofs.TextLaws.{decimal-most}

@@ -6,13 +6,13 @@ use lib.Count.{ones}
 use lib.ListN.{getD}
 use lib.IntN.{ℤ, pos, _+ℤ_}
 use Rattle.numbers.specs.Sum.{sumBelow, weightedSum}
-use Rattle.table.specs.declared.table.Table.{Table}
+use Rattle.types.specs.declared.table.Table.{Table}
 use Rattle.table.specs.Table.{rows, value}
 use Rattle.table.specs.Witness.{onlyIf, countOf}
-use Rattle.machine.specs.declared.vector.Vector.{Vector}
+use Rattle.types.specs.declared.vector.Vector.{Vector}
 use Rattle.job.specs.declared.job.Job.{Job}
-use Rattle.job.specs.declared.job.Stage.{Stage}
-use Rattle.job.specs.declared.job.Stage.the-variants.{Open, Found, Looped, Binate}
+use Rattle.types.specs.declared.stage.Stage.{Stage}
+use Rattle.types.specs.declared.stage.Stage.the-variants.{Open, Found, Looped, Binate}
 use Rattle.reporting.specs.declared.tally.Tally.{Tally}
 use Rattle.reporting.specs.Text.{decimal, signedText, spaced, lineFeed}
 

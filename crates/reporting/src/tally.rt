@@ -1,5 +1,5 @@
 // The numbers of a report's last line.
-use job::job::Stage;
+use types::stage::Stage;
 ghost use mathlib.Core.Path.{_≡_};
 ghost use Prim.Native.Nat.{_≤_};
 ghost use Rattle.reporting.specs.Report.{noTally, counted};

@@ -1,11 +1,11 @@
 // Whether tables, gates and jobs are the same in every field.
 use job::job::Job;
-use job::job::Stage;
-use machine::vector::Vector;
 use machine::vector::same_vector;
-use table::gate::Gate;
-use table::table::Table;
 use table::witness::same_counts;
+use types::gate::Gate;
+use types::stage::Stage;
+use types::table::Table;
+use types::vector::Vector;
 
 // Returns the letter of a stage.
 pub fn letter(stage: Stage) -> u8 {

@@ -2,8 +2,8 @@
 // K and M, and then three for each number that is not 0: `v` or `s`, place and component, where place 0 is b, or `c`, row and count.
 // A capital sets every component or count, whatever its place.
 use job::job::Job;
-use job::job::Stage;
-use machine::vector::Vector;
+use types::stage::Stage;
+use types::vector::Vector;
 use vectors::line::table_of;
 use vectors::text::digit;
 use vectors::text::first;

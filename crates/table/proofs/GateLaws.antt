@@ -11,8 +11,8 @@ use Rattle.numbers.specs.Sum.{weightedSum}
 use Rattle.numbers.specs.Tests.{sameBool}
 use Rattle.numbers.proofs.Int.{leZ-sub}
 use Rattle.numbers.proofs.TestLaws.{all-below-at, all-below-from, same-bool-eq, eq-same-bool}
-use Rattle.table.specs.declared.table.Table.{Table}
-use Rattle.table.specs.declared.gate.Gate.{Gate}
+use Rattle.types.specs.declared.table.Table.{Table}
+use Rattle.types.specs.declared.gate.Gate.{Gate}
 use Rattle.table.specs.Table.{rows, level, value}
 use Rattle.table.specs.Gate.{distance, gateTrue, Realises, realises}
 

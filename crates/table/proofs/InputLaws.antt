@@ -17,8 +17,8 @@ use Rattle.numbers.specs.Tests.{sameBool, firstFrom, isSome}
 use Rattle.numbers.proofs.SumLaws.{sum-below-ext, sum-below-most}
 use Rattle.numbers.proofs.TestLaws.{and-left, and-right, and-both, same-bool-eq, eq-same-bool, same-bool-beq}
 use Rattle.numbers.proofs.FirstLaws.{IsFirst, first-some, first-none}
-use Rattle.table.specs.declared.table.Table.{Table}
-use Rattle.table.specs.declared.inputs.InputKind.the-variants.{Idle}
+use Rattle.types.specs.declared.table.Table.{Table}
+use Rattle.types.specs.declared.inputs.InputKind.the-variants.{Idle}
 use Rattle.table.specs.Table.{rows, level, value}
 use Rattle.table.specs.Witness.{inputLevel, onlyIf, sideSum}
 use Rattle.table.specs.Inputs.{turnsAt, firstTurn, found, isRow, kindBy, kindAt}

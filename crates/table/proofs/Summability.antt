@@ -16,7 +16,7 @@ use Rattle.numbers.specs.Tests.{sameBool}
 use Rattle.numbers.proofs.Int.{integers, parts-mul}
 use Rattle.numbers.proofs.Ring.{*ℤ-idl}
 use Rattle.numbers.proofs.SumLaws.{sumZ, sumZ-counted, sumZ-counted-le, sum-below-ext, weighted-sum-cons, weighted-sum-ext, weighted-sum-exchange}
-use Rattle.table.specs.declared.table.Table.{Table}
+use Rattle.types.specs.declared.table.Table.{Table}
 use Rattle.table.specs.Table.{rows, level, value}
 use Rattle.table.specs.Gate.{distance, Realises}
 use Rattle.table.specs.Witness.{onlyIf, sideSum, Balances}

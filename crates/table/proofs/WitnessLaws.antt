@@ -10,8 +10,8 @@ use lib.ListN.{length, getD}
 use lib.Seq.{ext-getD}
 use borrow.Author.Tests.{ltb-true, lt-ltb, eqb-true, eq-eqb}
 use Rattle.numbers.proofs.TestLaws.{and-left, and-right, and-both, all-below-at, all-below-from}
-use Rattle.table.specs.declared.table.Table.{Table}
-use Rattle.table.specs.declared.witness.Witness.{Witness}
+use Rattle.types.specs.declared.table.Table.{Table}
+use Rattle.types.specs.declared.witness.Witness.{Witness}
 use Rattle.table.specs.Witness.{sideSum, Balances, countOf, balances, sameCounts}
 
 -- the two sides of a balance have the same total of each input, of input 0 too

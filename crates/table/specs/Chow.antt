@@ -5,7 +5,7 @@ use Prim.Native.Nat.{ℕ, suc, _*_}
 use lib.Dec.{ltb}
 use lib.IntN.{ℤ, pos, _-ℤ_}
 use Rattle.numbers.specs.Tabulate.{tabulate}
-use Rattle.table.specs.declared.table.Table.{Table}
+use Rattle.types.specs.declared.table.Table.{Table}
 use Rattle.table.specs.Witness.{sideSum}
 
 -- p0 is the count of true rows, pi that of true rows with input i

@@ -10,8 +10,8 @@ use lib.IntN.{ℤ, pos, negℤ, _-ℤ_}
 use lib.Signed.{leZ}
 use Rattle.numbers.specs.Sum.{weightedSum}
 use Rattle.numbers.specs.Tests.{sameBool, allBelow}
-use Rattle.table.specs.declared.table.Table.{Table}
-use Rattle.table.specs.declared.gate.Gate.{Gate}
+use Rattle.types.specs.declared.table.Table.{Table}
+use Rattle.types.specs.declared.gate.Gate.{Gate}
 use Rattle.table.specs.Table.{rows, level, value}
 
 -- the distance d of row r: the sum of the weights of its true inputs, less T

@@ -7,10 +7,10 @@ use Prim.Native.Nat.{ℕ, _+_, _^_}
 use lib.Dec.{eqb, ltb}
 use Rattle.numbers.specs.Tests.{sameBool, firstFrom, isSome}
 use Rattle.numbers.specs.Tabulate.{tabulate}
-use Rattle.table.specs.declared.table.Table.{Table}
-use Rattle.table.specs.declared.inputs.InputKind.{InputKind}
-use Rattle.table.specs.declared.inputs.InputKind.the-variants.{Idle, Rising, Falling, Binate}
-use Rattle.table.specs.declared.inputs.Place.{Place}
+use Rattle.types.specs.declared.table.Table.{Table}
+use Rattle.types.specs.declared.inputs.InputKind.{InputKind}
+use Rattle.types.specs.declared.inputs.InputKind.the-variants.{Idle, Rising, Falling, Binate}
+use Rattle.types.specs.declared.inputs.Place.{Place}
 use Rattle.table.specs.declared.inputs.Found.{Found}
 use Rattle.table.specs.declared.inputs.Found.the-variants.{Row, Nowhere}
 use Rattle.table.specs.Table.{rows, level, value}

@@ -9,8 +9,8 @@ use lib.Dec.{ltb, eqb}
 use lib.ListN.{getD, drop}
 use Rattle.numbers.specs.Sum.{sumBelow}
 use Rattle.numbers.specs.Tests.{sameBool, allAtMost, allBelow}
-use Rattle.table.specs.declared.table.Table.{Table}
-use Rattle.table.specs.declared.witness.Witness.{Witness}
+use Rattle.types.specs.declared.table.Table.{Table}
+use Rattle.types.specs.declared.witness.Witness.{Witness}
 use Rattle.table.specs.Table.{rows, level, value}
 
 -- the level of input i, from 1 on, in row r; input 0 is the constant 1, so that a sum over it counts whole rows

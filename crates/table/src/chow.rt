@@ -1,6 +1,6 @@
 // Chow's parameters.
-use crate::table::Table;
 use crate::witness::side_sum;
+use types::table::Table;
 ghost use mathlib.Core.Path.{_≡_};
 ghost use Prim.Native.Nat.{_≤_, _<_};
 ghost use Rattle.table.specs.Chow.{trueRows, chowAt, chowOf};

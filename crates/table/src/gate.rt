@@ -1,19 +1,13 @@
 // A threshold gate: its distance and value on a row, and whether it realises a table.
-use crate::table::Table;
 use crate::table::row_count;
 use crate::table::row_value;
+use types::gate::Gate;
+use types::table::Table;
 ghost use mathlib.Core.Path.{_≡_};
 ghost use Prim.Native.Nat.{_≤_, _<_};
 ghost use lib.IntN.{pos};
 ghost use lib.ListN.{getD};
 ghost use Rattle.table.specs.Gate.{distance, gateTrue, realises, within, placeLimit, inRange, beyond};
-
-// n inputs, a weight for each of eight places, and the threshold T. Places past n hold 0.
-pub struct Gate {
-    pub n: u8,
-    pub weights: [i32; 8],
-    pub threshold: i32,
-}
 
 // Returns the sum of the weights of a row's true inputs, less T. The sum is of 64 bits, so that it cannot wrap.
 pub fn row_distance(weights: [i32; 8], threshold: i32, row: usize) -> i64

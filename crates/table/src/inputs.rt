@@ -1,23 +1,12 @@
 // The kinds of a table's inputs.
-use crate::table::Table;
 use crate::table::row_count;
 use crate::table::row_value;
+use types::inputs::InputKind;
+use types::inputs::Place;
+use types::table::Table;
 ghost use mathlib.Core.Path.{_≡_};
 ghost use Prim.Native.Nat.{_≤_, _<_};
 ghost use Rattle.table.specs.Inputs.{turnsAt, firstTurn, found, isRow, kindBy, kindAt, kindsOf};
-
-// What making an input true does to the table: nothing, only false to true, only true to false, or both.
-pub enum InputKind {
-    Idle,
-    Rising,
-    Falling,
-    Binate,
-}
-
-// The kind of the input at one place.
-pub struct Place {
-    pub kind: InputKind,
-}
 
 // The row that a search found.
 pub enum Found {

@@ -1,16 +1,11 @@
 // A truth table of up to eight inputs.
+use types::table::Table;
 ghost use mathlib.Core.Path.{_≡_};
 ghost use mathlib.Core.Bool.{not};
 ghost use Prim.Native.Nat.{_≤_, _<_};
 ghost use lib.ListN.{drop};
 ghost use Rattle.numbers.specs.Tests.{allAtMost};
 ghost use Rattle.table.specs.Table.{rowsOf, byteCount, value, spareSet};
-
-// n inputs and a bit for each of the 2^n rows: row r is bit r mod 8 of byte r div 8. The other bits are 0.
-pub struct Table {
-    pub n: u8,
-    pub bytes: [u8; 32],
-}
 
 // Returns the number of rows.
 pub fn row_count(n: u8) -> usize

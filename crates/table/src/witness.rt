@@ -1,17 +1,13 @@
 // A witness: a count for each row, and whether the counts balance.
-use crate::table::Table;
 use crate::table::row_count;
 use crate::table::row_value;
+use types::table::Table;
+use types::witness::Witness;
 ghost use mathlib.Core.Path.{_≡_};
 ghost use Prim.Native.Nat.{_≤_, _<_};
 ghost use lib.ListN.{drop};
 ghost use Rattle.numbers.specs.Tests.{allAtMost};
 ghost use Rattle.table.specs.Witness.{inputLevel, sideSum, countOf, balances, sameCounts, unfit};
-
-// A count for each row of eight inputs. Rows past the table have count 0.
-pub struct Witness {
-    pub counts: [u32; 256],
-}
 
 // A count lies in 0 to this limit.
 pub const COUNT_LIMIT: u32 = 1_000_000;

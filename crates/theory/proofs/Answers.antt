@@ -15,7 +15,7 @@ use Rattle.cell.proofs.TableChecked.{kept-inputs}
 use Rattle.numbers.specs.Tests.{allAtMost}
 use Rattle.numbers.proofs.Int.{integers, parts-add, parts-neg}
 use Rattle.numbers.proofs.TestLaws.{not-passed, or-neither, all-at-most-at, all-at-most-from}
-use Rattle.table.specs.declared.table.Table.{Table}
+use Rattle.types.specs.declared.table.Table.{Table}
 use Rattle.table.specs.Table.{rows, value}
 use Rattle.table.specs.Gate.{distance, Realises, realises, weightLimit, beyond}
 use Rattle.table.specs.Witness.{sideSum, Balances, countOf, balances, countLimit, unfit}
@@ -26,10 +26,10 @@ use Rattle.table.proofs.Summability.{no-gate}
 use Rattle.cell.specs.Refusal.{Rule, answered, NoneBroken, none, also}
 use Rattle.cell.specs.Calls.{tableRules, checkGateRules, checkGate, checkWitnessRules, checkWitness}
 use Rattle.cell.proofs.RefusalLaws.{none-broken-answered}
-use Rattle.machine.specs.declared.vector.Vector.{Vector}
+use Rattle.types.specs.declared.vector.Vector.{Vector}
 use Rattle.job.specs.declared.job.Job.{Job}
-use Rattle.job.specs.declared.job.Stage.{Stage}
-use Rattle.job.specs.declared.job.Stage.the-variants.{Found, Looped, Binate}
+use Rattle.types.specs.declared.stage.Stage.{Stage}
+use Rattle.types.specs.declared.stage.Stage.the-variants.{Found, Looped, Binate}
 use Rattle.machine.specs.Failing.{margin, fails}
 use Rattle.machine.specs.Power.{highest}
 use Rattle.machine.specs.Vector.{component}

@@ -11,7 +11,7 @@ use lib.ListN.{length, length-replicate}
 use Rattle.numbers.specs.Tests.{sameBool, isSome}
 use Rattle.numbers.proofs.FirstLaws.{first-some}
 use Rattle.numbers.proofs.TestLaws.{no-true, and-left, and-right}
-use Rattle.table.specs.declared.table.Table.{Table}
+use Rattle.types.specs.declared.table.Table.{Table}
 use Rattle.table.specs.Table.{rows, level}
 use Rattle.table.specs.Witness.{inputLevel, onlyIf, sideSum, countOf}
 use Rattle.table.specs.Inputs.{firstTurn}

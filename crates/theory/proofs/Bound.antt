@@ -13,11 +13,11 @@ use Rattle.numbers.specs.Sum.{weightedSum}
 use Rattle.numbers.proofs.Int.{integers, parts-add, parts-mul, parts-neg, ≤ℤ-eq, natAbs-parts, size-mul}
 use Rattle.numbers.proofs.Ring.{ring, dring, rep, D-eq}
 use Rattle.numbers.proofs.SumLaws.{weighted-sum-nil, weighted-sum-cons}
-use Rattle.table.specs.declared.table.Table.{Table}
+use Rattle.types.specs.declared.table.Table.{Table}
 use Rattle.table.specs.Table.{rows, level, value}
 use Rattle.table.specs.Gate.{distance, Realises}
 use Rattle.table.proofs.TableLaws.{level-lt, level-past}
-use Rattle.machine.specs.declared.vector.Vector.{Vector}
+use Rattle.types.specs.declared.vector.Vector.{Vector}
 use Rattle.machine.specs.Failing.{margin}
 use Rattle.job.specs.Machine.{run, fresh}
 use Rattle.machine.specs.Vector.{component}

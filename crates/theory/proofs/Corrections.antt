@@ -14,7 +14,7 @@ use Rattle.numbers.specs.Sum.{sumBelow, weightedSum}
 use Rattle.numbers.proofs.Int.{integers}
 use Rattle.numbers.proofs.Ring.{ring, *ℤ-negl, *ℤ-negr, *ℤ-idl, *ℤ-minusl}
 use Rattle.numbers.proofs.SumLaws.{sumZ-ext, sumZ-pos, sum-below-zero, sum-below-suc, sum-below-most, weighted-sum-nil, weighted-sum-cons}
-use Rattle.machine.specs.declared.vector.Vector.{Vector}
+use Rattle.types.specs.declared.vector.Vector.{Vector}
 use Rattle.machine.specs.Vector.{sign}
 use Rattle.machine.specs.Failing.{margin}
 use Rattle.machine.specs.Vector.{component}

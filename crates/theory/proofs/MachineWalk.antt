@@ -12,13 +12,13 @@ use lib.ListN.{length, getD-replicate}
 use lib.IntN.{ℤ, pos}
 use lib.Signed.{_≤ℤ_}
 use Rattle.numbers.proofs.Int.{integers}
-use Rattle.table.specs.declared.table.Table.{Table}
+use Rattle.types.specs.declared.table.Table.{Table}
 use Rattle.table.specs.Table.{rows, level, value}
 use Rattle.table.specs.Gate.{distance}
-use Rattle.machine.specs.declared.vector.Vector.{Vector}
+use Rattle.types.specs.declared.vector.Vector.{Vector}
 use Rattle.job.specs.declared.job.Job.{Job}
-use Rattle.job.specs.declared.job.Stage.{Stage}
-use Rattle.job.specs.declared.job.Stage.the-variants.{Open, Found, Looped, Binate}
+use Rattle.types.specs.declared.stage.Stage.{Stage}
+use Rattle.types.specs.declared.stage.Stage.the-variants.{Open, Found, Looped, Binate}
 use Rattle.machine.specs.Failing.{fails, failing}
 use Rattle.machine.specs.Vector.{correctedBy, sameVector, zeroVector}
 use Rattle.job.specs.Machine.{corrected, markIf, marked, settleBy, settled, closeIf, closed, stepBy, stepIn, step, run, freshBy, fresh}

@@ -5,12 +5,12 @@ use mathlib.Core.List.{List, [], _∷_, _++_}
 use Prim.Native.Nat.{ℕ, _+_, _-_}
 use lib.ListN.{length, replicate, set}
 use lib.IntN.{ℤ, pos, negℤ}
-use Rattle.table.specs.declared.table.Table.{Table}
-use Rattle.table.specs.declared.gate.Gate.{Gate}
+use Rattle.types.specs.declared.table.Table.{Table}
+use Rattle.types.specs.declared.gate.Gate.{Gate}
 use Rattle.cell.specs.Refusal.{answered, refused}
 use Rattle.cell.specs.Calls.{gateValue, checkWitness, chowParameters}
 use Rattle.job.specs.declared.job.Job.{Job}
-use Rattle.job.specs.declared.job.Stage.the-variants.{Open, Found, Binate}
+use Rattle.types.specs.declared.stage.Stage.the-variants.{Open, Found, Binate}
 use Rattle.machine.specs.Binate.{oneMore, zeros}
 use Rattle.machine.specs.Vector.{sameVector, zeroVector}
 use Rattle.job.specs.Machine.{run, startJob, fresh}

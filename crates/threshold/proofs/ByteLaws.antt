@@ -6,7 +6,7 @@ use native.Mathlib.Omega.{arith}
 use lib.ListN.{length, getD, drop}
 use lib.IntN.{ℤ, pos, negsuc}
 use Rattle.numbers.proofs.TabulateLaws.{tabulate-getD, filled}
-use Rattle.table.specs.declared.inputs.Place.{Place}
+use Rattle.types.specs.declared.inputs.Place.{Place}
 use Rattle.cell.specs.Answers.{idle}
 use Rattle.codec.specs.Field.{writtenAt}
 use Rattle.threshold.specs.Inputs.{kindByte, kindBytes, word, chowBytes}

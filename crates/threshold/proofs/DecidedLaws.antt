@@ -6,7 +6,7 @@ use mathlib.Core.List.{[], _∷_}
 use Prim.Native.Nat.{ℕ, _+_, _≤_}
 use native.Mathlib.Omega.{arith}
 use borrow.Author.Tests.{le-ltb, ltb-false}
-use Rattle.table.specs.declared.table.Table.{Table}
+use Rattle.types.specs.declared.table.Table.{Table}
 use Rattle.cell.specs.Refusal.{Answered, answered, refused, checked, NoneBroken, none, also}
 use Rattle.cell.specs.Calls.{tableRules}
 use Rattle.cell.proofs.RefusalLaws.{none-broken-answered, answered-none-broken}
@@ -14,8 +14,8 @@ use Rattle.cell.proofs.TableChecked.{kept-inputs, table-kept}
 use Rattle.cell.specs.declared.refusal.Status.the-variants as Status′
 use Rattle.job.specs.declared.job.Job.{Job}
 use Rattle.job.specs.declared.job.Carried.{Carried}
-use Rattle.job.specs.declared.job.Stage.{Stage}
-use Rattle.job.specs.declared.job.Stage.the-variants.{Open}
+use Rattle.types.specs.declared.stage.Stage.{Stage}
+use Rattle.types.specs.declared.stage.Stage.the-variants.{Open}
 use Rattle.job.specs.Machine.{run, fresh}
 use Rattle.job.specs.Sound.{cap, Sound}
 use Rattle.job.specs.Calls.{callBudget, freshJob, jobRules, budgetRange, pastCap, ifOpen, carryOn, carried}

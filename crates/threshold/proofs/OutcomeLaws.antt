@@ -14,8 +14,8 @@ use Rattle.cell.specs.Calls.{checkGateRules, checkWitnessRules}
 use Rattle.cell.proofs.RefusalLaws.{answered-none-broken, none-broken-answered, rule-kept}
 use Rattle.cell.proofs.TableChecked.{table-kept}
 use Rattle.job.specs.declared.job.Job.{Job}
-use Rattle.job.specs.declared.job.Stage.{Stage}
-use Rattle.job.specs.declared.job.Stage.the-variants.{Open, Found, Looped, Binate}
+use Rattle.types.specs.declared.stage.Stage.{Stage}
+use Rattle.types.specs.declared.stage.Stage.the-variants.{Open, Found, Looped, Binate}
 use Rattle.job.specs.Calls.{jobRules, gateOf, witnessOf}
 use Rattle.job.proofs.JobChecked.{kept-sound}
 use Rattle.codec.specs.Head.{headBytes}

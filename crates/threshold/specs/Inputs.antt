@@ -3,9 +3,9 @@
 use mathlib.Core.List.{List, [], _∷_, map}
 use Prim.Native.Nat.{ℕ, _-_, _/_, _%_}
 use lib.IntN.{ℤ, pos, negsuc}
-use Rattle.table.specs.declared.inputs.InputKind.{InputKind}
-use Rattle.table.specs.declared.inputs.InputKind.the-variants.{Idle, Rising, Falling, Binate}
-use Rattle.table.specs.declared.inputs.Place.{Place}
+use Rattle.types.specs.declared.inputs.InputKind.{InputKind}
+use Rattle.types.specs.declared.inputs.InputKind.the-variants.{Idle, Rising, Falling, Binate}
+use Rattle.types.specs.declared.inputs.Place.{Place}
 
 -- the byte of an input's kind
 abbrev pub kindByte : InputKind → ℕ

@@ -1,7 +1,7 @@
 // The kinds and Chow's parameters of a table's inputs, as bytes.
 use crate::result::refusal;
-use table::inputs::InputKind;
-use table::inputs::Place;
+use types::inputs::InputKind;
+use types::inputs::Place;
 use writing::length::signed_code;
 ghost use mathlib.Core.Path.{_≡_};
 ghost use Prim.Native.Nat.{_<_};

@@ -1,13 +1,13 @@
 // What a job has come to, written as a record.
 use crate::result::refusal;
 use job::job::Job;
-use job::job::Stage;
 use records::write::Written;
 use records::write::save;
 use records::write::write_gate;
 use records::write::write_witness;
-use table::gate::Gate;
-use table::witness::Witness;
+use types::gate::Gate;
+use types::stage::Stage;
+use types::witness::Witness;
 ghost use mathlib.Core.Path.{_≡_};
 ghost use mathlib.Core.List.{[]};
 ghost use lib.ListN.{length};

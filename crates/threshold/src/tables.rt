@@ -8,7 +8,7 @@ use records::read::Kind;
 use records::reader::read;
 use table::chow::all_chow;
 use table::inputs::all_kinds;
-use table::table::Table;
+use types::table::Table;
 ghost use mathlib.Core.Path.{_≡_};
 ghost use mathlib.Core.List.{[]};
 ghost use lib.ListN.{length};

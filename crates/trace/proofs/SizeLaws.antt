@@ -15,12 +15,12 @@ use borrow.Author.Tests.{eqb-true, eqb-false}
 use Rattle.numbers.proofs.Int.{up, dn, parts-neg}
 use Rattle.numbers.proofs.Widths.{fits-size}
 use Rattle.numbers.proofs.TestLaws.{not-passed}
-use Rattle.table.specs.declared.table.Table.{Table}
+use Rattle.types.specs.declared.table.Table.{Table}
 use Rattle.table.specs.Table.{rows}
 use Rattle.table.specs.Witness.{sideSum, countOf}
 use Rattle.table.proofs.TableLaws.{rows-le}
 use Rattle.table.proofs.InputLaws.{side-sum-terms, side-terms-le}
-use Rattle.machine.specs.declared.vector.Vector.{Vector}
+use Rattle.types.specs.declared.vector.Vector.{Vector}
 use Rattle.machine.specs.Vector.{sameZ, component}
 use Rattle.machine.proofs.VectorLaws.{same-z-correct}
 

@@ -1,8 +1,8 @@
 // How a job came to its vector: the counts of its rows since the mark, summed and compared. Sums are of 64 bits, so that none wraps.
-use machine::vector::Vector;
-use table::table::Table;
 use table::table::row_count;
 use table::table::row_value;
+use types::table::Table;
+use types::vector::Vector;
 ghost use mathlib.Core.Path.{_≡_};
 ghost use mathlib.Core.Bool.{true, false, _&&_};
 ghost use Prim.Native.Nat.{ℕ, suc, _+_, _*_, _^_, _≤_, _<_};

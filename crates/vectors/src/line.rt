@@ -4,7 +4,7 @@ use crate::text::digit;
 use crate::text::number;
 use crate::text::word;
 use bytes::scan::find;
-use table::table::Table;
+use types::table::Table;
 ghost use Prim.Native.Nat.{_≤_};
 ghost use lib.ListN.{length};
 

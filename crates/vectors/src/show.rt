@@ -1,7 +1,7 @@
 // Words and numbers on standard output, each after the first of a line with a space in front.
 use cell::refusal::Answer;
 use libc::STDOUT_FILENO;
-use table::inputs::InputKind;
+use types::inputs::InputKind;
 
 // Writes a word as it stands.
 pub fn word(text: &[u8]) {

@@ -7,8 +7,8 @@ use Rattle.cell.specs.Refusal.{Answered, answered, refused, checked}
 use Rattle.cell.specs.Calls.{pastRows}
 use Rattle.machine.specs.Failing.{fails}
 use Rattle.job.specs.declared.job.Job.{Job}
-use Rattle.job.specs.declared.job.Stage.{Stage}
-use Rattle.job.specs.declared.job.Stage.the-variants.{Open, Found, Looped, Binate}
+use Rattle.types.specs.declared.stage.Stage.{Stage}
+use Rattle.types.specs.declared.stage.Stage.the-variants.{Open, Found, Looped, Binate}
 use Rattle.job.specs.Calls.{jobRules, gateOf, witnessOf, noGate, noWitness}
 use Rattle.view.specs.declared.shown.Verdict.the-variants as Verdict′
 use Rattle.view.specs.declared.shown.Shown.{Shown}

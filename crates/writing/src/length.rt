@@ -1,7 +1,7 @@
 // How many bytes fields take.
-use machine::vector::Vector;
-use table::table::Table;
 use table::table::byte_count;
+use types::table::Table;
+use types::vector::Vector;
 ghost use mathlib.Core.Path.{_≡_};
 ghost use Prim.Native.Nat.{_≤_};
 ghost use lib.ListN.{length};

@@ -1,9 +1,9 @@
 // Fields written into a lent buffer at a position. Each function returns the position after its field, and all other bytes keep their
 // values.
 use crate::length::signed_code;
-use machine::vector::Vector;
-use table::table::Table;
 use table::table::byte_count;
+use types::table::Table;
+use types::vector::Vector;
 ghost use mathlib.Core.Path.{_≡_};
 ghost use mathlib.Core.Bool.{true};
 ghost use Prim.Native.Nat.{_+_, _≤_, _<_};

@@ -4,8 +4,8 @@ use Prim.Native.Nat.{ℕ, _-_}
 use borrow.Author.Needs.{needs}
 use Rattle.machine.specs.Power.{highest}
 use Rattle.machine.proofs.HighestLaws.{highest-zero}
-use Rattle.job.specs.declared.job.Stage.{Stage}
-use Rattle.job.specs.declared.job.Stage.the-variants.{Open, Found, Looped, Binate}
+use Rattle.types.specs.declared.stage.Stage.{Stage}
+use Rattle.types.specs.declared.stage.Stage.the-variants.{Open, Found, Looped, Binate}
 use Rattle.job.specs.Sound.{markFor}
 use Rattle.job.proofs.sound.mark_for.Statement.{statement}
 use Rattle.job.proofs.sound.mark_for.Tie as tie

@@ -8,8 +8,8 @@ use Rattle.machine.specs.Vector.{sameVector, zeroVector}
 use Rattle.machine.specs.Failing.{failing}
 use Rattle.machine.specs.Binate.{binatePlace}
 use Rattle.job.specs.declared.job.Job.{Job}
-use Rattle.job.specs.declared.job.Stage.{Stage}
-use Rattle.job.specs.declared.job.Stage.the-variants.{Open, Found, Looped, Binate}
+use Rattle.types.specs.declared.stage.Stage.{Stage}
+use Rattle.types.specs.declared.stage.Stage.the-variants.{Open, Found, Looped, Binate}
 use Rattle.job.specs.Sound.{isTraced, isBinateWith, soundIn}
 use Rattle.job.proofs.SoundTest.{and-passed, and-failed}
 use Rattle.job.proofs.sound.sound_in.Statement.{statement}

@@ -6,9 +6,9 @@ use Prim.Native.Nat.{ℕ}
 use borrow.Author.Needs.{needs}
 use Rattle.machine.proofs.BinateLaws.{binate-place-lt}
 use Rattle.table.proofs.InputLaws.{found-some, found-none}
-use Rattle.table.specs.declared.table.Table.{Table}
+use Rattle.types.specs.declared.table.Table.{Table}
 use Rattle.machine.specs.Binate.{binatePlace}
-use Rattle.job.specs.declared.job.Stage.the-variants as Stage′
+use Rattle.types.specs.declared.stage.Stage.the-variants as Stage′
 use Rattle.job.specs.Machine.{startJob}
 use Rattle.job.proofs.MachineLaws.{fresh-open, fresh-binate}
 use Rattle.job.proofs.start.fresh_job.Statement.{statement}

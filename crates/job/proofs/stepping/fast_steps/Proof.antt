@@ -7,7 +7,7 @@ use native.Mathlib.Omega.{arith}
 use borrow.Author.Needs.{needs}
 use Rattle.lanes.specs.Sums.{magnitude}
 use Rattle.job.specs.declared.job.Job.{Job}
-use Rattle.job.specs.declared.job.Stage.the-variants.{Open}
+use Rattle.types.specs.declared.stage.Stage.the-variants.{Open}
 use Rattle.job.specs.Core.{jobOf}
 use Rattle.job.specs.Sound.{Sound}
 use Rattle.job.proofs.SoundTest.{in-range-search}

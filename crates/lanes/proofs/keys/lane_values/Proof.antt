@@ -11,7 +11,7 @@ use borrow.Author.Needs.{needs}
 use lib.Pow.{pow-pos}
 use lib.ListN.{length, getD}
 use Rattle.numbers.proofs.TabulateLaws.{length-tabulate}
-use Rattle.table.specs.declared.table.Table.{Table}
+use Rattle.types.specs.declared.table.Table.{Table}
 use Rattle.table.specs.Table.{rows, byteCount, value}
 use Rattle.table.proofs.TableLaws.{rows-le, bytes-le}
 use Rattle.machine.specs.Words.{inTable, valuesBelow}

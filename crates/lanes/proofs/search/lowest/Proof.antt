@@ -14,7 +14,7 @@ use lib.Signed.{ltZ}
 use mir.Syntax.{w16}
 use mir.Val.{toZ, ofZ}
 use mir.Facts.{toZ-ofZ}
-use Rattle.table.specs.declared.table.Table.{Table}
+use Rattle.types.specs.declared.table.Table.{Table}
 use Rattle.lanes.specs.Blocks.{blocksOf}
 use Rattle.lanes.specs.Codes.{oneOf}
 use Rattle.lanes.specs.Keys.{leastBelow, blockKey}

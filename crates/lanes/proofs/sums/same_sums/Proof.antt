@@ -14,7 +14,7 @@ use mir.Syntax.{w16}
 use mir.Val.{toZ, ofZ, SFits}
 use mir.Facts.{toZ-ofZ}
 use Rattle.numbers.proofs.TestLaws.{not-passed}
-use Rattle.machine.specs.declared.vector.Vector.{Vector}
+use Rattle.types.specs.declared.vector.Vector.{Vector}
 use Rattle.machine.specs.Vector.{sameVector}
 use Rattle.machine.proofs.VectorLaws.{same-vector-correct}
 use Rattle.machine.proofs.RangeLaws.{in-range-correct}

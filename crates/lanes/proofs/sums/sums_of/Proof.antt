@@ -13,7 +13,7 @@ use mir.Val.{toZ, ofZ, SFits}
 use mir.Facts.{toZ-ofZ}
 use Rattle.numbers.proofs.Int.{natAbs-parts, parts-sub, one-part}
 use Rattle.numbers.proofs.Widths.{size-fits}
-use Rattle.machine.specs.declared.vector.Vector.{Vector}
+use Rattle.types.specs.declared.vector.Vector.{Vector}
 use Rattle.machine.proofs.DistanceLaws.{distance-zero}
 use Rattle.lanes.proofs.SumsLaws.{shifted-one, threshold-size, weight-size}
 use Rattle.lanes.proofs.WeightLaws.{less-twice}

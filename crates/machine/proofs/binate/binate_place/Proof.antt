@@ -7,7 +7,7 @@ use native.Mathlib.Omega.{arith}
 use borrow.Author.Count.{below-none, below-more}
 use borrow.Author.Needs.{needs}
 use Rattle.numbers.proofs.FirstLaws.{first-at, first-fails}
-use Rattle.table.specs.declared.table.Table.{Table}
+use Rattle.types.specs.declared.table.Table.{Table}
 use Rattle.table.specs.Inputs.{found}
 use Rattle.machine.specs.Words.{rowWords}
 use Rattle.machine.specs.Binate.{binateAt}

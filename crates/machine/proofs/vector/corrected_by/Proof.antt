@@ -22,7 +22,7 @@ use Rattle.numbers.proofs.TabulateLaws.{filled, length-tabulate, tabulate-getD,
 use Rattle.table.specs.Table.{level}
 use Rattle.table.specs.Gate.{weightLimit}
 use Rattle.table.proofs.TableLaws.{level-lt}
-use Rattle.machine.specs.declared.vector.Vector.{Vector}
+use Rattle.types.specs.declared.vector.Vector.{Vector}
 use Rattle.machine.specs.Vector.{sign, correctedBy}
 use Rattle.machine.proofs.VectorLaws.{getD-add-levels, corrected-weights, corrected-threshold, length-corrected, vector-eq}
 use Rattle.machine.proofs.RangeLaws.{InRange, in-range-correct, in-range-at, corrected-in-range}

@@ -13,7 +13,7 @@ use mir.Facts.{toZ-ofZ}
 use borrow.Author.Count.{below-more}
 use borrow.Author.Needs.{needs}
 use Rattle.numbers.proofs.TestLaws.{not-passed}
-use Rattle.machine.specs.declared.vector.Vector.{Vector}
+use Rattle.types.specs.declared.vector.Vector.{Vector}
 use Rattle.machine.specs.Vector.{sameVector}
 use Rattle.machine.proofs.VectorLaws.{vector-eq, same-vector-correct}
 use Rattle.machine.proofs.vector.same_vector.Statement.{statement}

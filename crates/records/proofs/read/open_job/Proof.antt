@@ -1,6 +1,6 @@
 -- `records::read::open_job` meets its contract: M is what `top_power` finds. Assumes nothing.
 use borrow.Author.Needs.{needs}
-use Rattle.job.specs.declared.job.Stage.the-variants.{Open}
+use Rattle.types.specs.declared.stage.Stage.the-variants.{Open}
 use Rattle.records.proofs.read.open_job.Statement.{statement}
 use Rattle.records.proofs.read.open_job.Tie as tie
 

@@ -3,9 +3,9 @@ use mathlib.Core.Path.{_∙_, ap}
 use mathlib.Core.Bool.{true}
 use Prim.Native.Nat.{ℕ}
 use borrow.Author.Needs.{needs}
-use Rattle.table.specs.declared.table.Table.{Table}
+use Rattle.types.specs.declared.table.Table.{Table}
 use Rattle.cell.specs.Refusal.{answered}
-use Rattle.machine.specs.declared.vector.Vector.{Vector}
+use Rattle.types.specs.declared.vector.Vector.{Vector}
 use Rattle.codec.specs.Field.{Reading, field}
 use Rattle.codec.specs.VectorField.{vectorAt}
 use Rattle.reading.proofs.FieldFacts.{vector-refused, vector-done}

@@ -6,8 +6,8 @@ use Prim.Native.Nat.{ℕ, _+_, _≤_}
 use native.Mathlib.Omega.{arith}
 use lib.ListN.{length, length-append}
 use borrow.Author.Needs.{needs}
-use Rattle.table.specs.declared.table.Table.{Table}
-use Rattle.table.specs.declared.witness.Witness.{Witness}
+use Rattle.types.specs.declared.table.Table.{Table}
+use Rattle.types.specs.declared.witness.Witness.{Witness}
 use Rattle.cell.specs.Refusal.{Rule, Answered, answered, checked}
 use Rattle.cell.specs.Calls.{witnessRange}
 use Rattle.cell.proofs.RefusalLaws.{rule-broken, rule-kept}

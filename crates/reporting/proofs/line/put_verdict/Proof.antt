@@ -5,8 +5,8 @@ use Prim.Native.Nat.{ℕ, _+_, _≤_}
 use lib.ListN.{length}
 use denote.Ref.{now}
 use borrow.Author.Needs.{needs}
-use Rattle.job.specs.declared.job.Stage.{Stage}
-use Rattle.job.specs.declared.job.Stage.the-variants.{Open}
+use Rattle.types.specs.declared.stage.Stage.{Stage}
+use Rattle.types.specs.declared.stage.Stage.the-variants.{Open}
 use Rattle.reporting.specs.Text.{decimal, spaced}
 use Rattle.reporting.specs.Lines.{openText, verdictText}
 use Rattle.reporting.proofs.LineWriting.{Left, all-left, next-room, next-left}

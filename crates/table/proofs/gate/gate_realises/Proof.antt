@@ -8,8 +8,8 @@ use borrow.Author.Needs.{needs}
 use borrow.Author.Tests.{not-true, not-false}
 use Rattle.numbers.specs.Tests.{sameBool, allBelow}
 use Rattle.numbers.proofs.TestLaws.{same-bool-beq, all-below-zero, all-below-more, all-below-fails}
-use Rattle.table.specs.declared.table.Table.{Table}
-use Rattle.table.specs.declared.gate.Gate.{Gate}
+use Rattle.types.specs.declared.table.Table.{Table}
+use Rattle.types.specs.declared.gate.Gate.{Gate}
 use Rattle.table.specs.Table.{rows, value}
 use Rattle.table.specs.Gate.{gateTrue, realises}
 use Rattle.table.proofs.TableLaws.{rows-le}

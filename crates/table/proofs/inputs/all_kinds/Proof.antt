@@ -7,9 +7,9 @@ use native.Mathlib.Omega.{arith}
 use borrow.Author.Needs.{needs}
 use lib.ListN.{replicate}
 use Rattle.numbers.proofs.TabulateLaws.{filled, filled-none, filled-more, filled-all}
-use Rattle.table.specs.declared.inputs.InputKind.{InputKind}
-use Rattle.table.specs.declared.inputs.InputKind.the-variants.{Idle}
-use Rattle.table.specs.declared.inputs.Place.{Place}
+use Rattle.types.specs.declared.inputs.InputKind.{InputKind}
+use Rattle.types.specs.declared.inputs.InputKind.the-variants.{Idle}
+use Rattle.types.specs.declared.inputs.Place.{Place}
 use Rattle.table.specs.Inputs.{placeAt, kindsOf}
 use Rattle.table.proofs.inputs.all_kinds.Statement.{statement}
 use Rattle.table.proofs.inputs.all_kinds.Tie as tie

@@ -8,7 +8,7 @@ use native.Mathlib.Omega.{arith}
 use borrow.Author.Count.{below-none, below-more}
 use borrow.Author.Needs.{needs}
 use Rattle.numbers.proofs.TestLaws.{not-passed}
-use Rattle.table.specs.declared.table.Table.{Table}
+use Rattle.types.specs.declared.table.Table.{Table}
 use Rattle.table.specs.Witness.{countOf, sideSum, balances}
 use Rattle.table.proofs.WitnessLaws.{side-sums-equal, balances-correct}
 use Rattle.table.proofs.witness.is_balanced.Statement.{statement}

@@ -9,7 +9,7 @@ use mir.Syntax.{w64}
 use borrow.Author.Needs.{needs}
 use Rattle.numbers.proofs.Int.{back}
 use Rattle.numbers.proofs.TabulateLaws.{filled, filled-none, filled-more}
-use Rattle.table.specs.declared.inputs.Place.{Place}
+use Rattle.types.specs.declared.inputs.Place.{Place}
 use Rattle.threshold.specs.Inputs.{kindBytes}
 use Rattle.threshold.proofs.ResultLaws.{returned-short, returned-bytes}
 use Rattle.threshold.proofs.ByteLaws.{kind-count, kind-at, filled-written}

@@ -4,8 +4,8 @@ use mathlib.Core.List.{List}
 use Prim.Native.Nat.{ℕ}
 use lib.ListN.{length}
 use borrow.Author.Needs.{needs}
-use Rattle.table.specs.declared.gate.Gate.{Gate}
-use Rattle.table.specs.declared.witness.Witness.{Witness}
+use Rattle.types.specs.declared.gate.Gate.{Gate}
+use Rattle.types.specs.declared.witness.Witness.{Witness}
 use Rattle.job.specs.declared.job.Job.{Job}
 use Rattle.records.specs.Record.{ofGate, ofWitness}
 use Rattle.records.specs.Calls.{writeRecord}

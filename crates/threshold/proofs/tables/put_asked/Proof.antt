@@ -8,8 +8,8 @@ use lib.IntN.{ℤ}
 use mir.Syntax.{w64}
 use borrow.Author.Needs.{needs}
 use Rattle.numbers.proofs.Int.{back}
-use Rattle.table.specs.declared.table.Table.{Table}
-use Rattle.table.specs.declared.inputs.Place.{Place}
+use Rattle.types.specs.declared.table.Table.{Table}
+use Rattle.types.specs.declared.inputs.Place.{Place}
 use Rattle.cell.specs.Refusal.{Answered, NoneBroken}
 use Rattle.cell.proofs.TableChecked.{kept-inputs}
 use Rattle.job.specs.declared.job.Job.{Job}

@@ -18,7 +18,7 @@ use Rattle.numbers.specs.Tabulate.{tabulate}
 use Rattle.numbers.proofs.TestLaws.{and-both, all-below-zero, all-below-more, all-below-fails, all-below-cong}
 use Rattle.numbers.proofs.TabulateLaws.{getD-tabulate}
 use Rattle.table.specs.Witness.{sideSum, countOf}
-use Rattle.machine.specs.declared.vector.Vector.{Vector}
+use Rattle.types.specs.declared.vector.Vector.{Vector}
 use Rattle.machine.specs.Vector.{sameZ, component}
 use Rattle.trace.proofs.SizeLaws.{side-sum-lt}
 use Rattle.trace.proofs.traced.is_traced.Statement.{statement}

@@ -14,7 +14,7 @@ use Rattle.numbers.specs.Sum.{sumBelow}
 use Rattle.numbers.specs.Tabulate.{tabulate}
 use Rattle.numbers.proofs.SumLaws.{sum-below-zero, sum-below-suc}
 use Rattle.numbers.proofs.TabulateLaws.{length-tabulate, getD-tabulate, tabulate-getD, tabulate-ext}
-use Rattle.table.specs.declared.table.Table.{Table}
+use Rattle.types.specs.declared.table.Table.{Table}
 use Rattle.table.specs.Table.{rows}
 use Rattle.table.specs.Witness.{countOf}
 use Rattle.table.proofs.TableLaws.{rows-le}

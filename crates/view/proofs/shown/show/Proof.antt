@@ -4,7 +4,7 @@ use mathlib.Core.List.{[]}
 use borrow.Author.Needs.{needs}
 use Rattle.cell.specs.Refusal.{answered}
 use Rattle.job.specs.declared.job.Job.{Job}
-use Rattle.job.specs.declared.job.Stage.{Stage}
+use Rattle.types.specs.declared.stage.Stage.{Stage}
 use Rattle.view.specs.declared.shown.Shown.{Shown}
 use Rattle.view.specs.Calls.{shownIn, showJob, shown}
 use Rattle.job.proofs.JobChecked.{job-refused, job-passed}

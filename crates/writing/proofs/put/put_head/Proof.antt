@@ -9,7 +9,7 @@ use lib.ListN.{length, take, length-set}
 use lib.Seq.{sets, length-sets, paste, paste-zero, paste-suc}
 use denote.Ref.{now}
 use borrow.Author.Needs.{needs}
-use Rattle.table.specs.declared.table.Table.{Table}
+use Rattle.types.specs.declared.table.Table.{Table}
 use Rattle.table.specs.Table.{byteCount}
 use Rattle.table.proofs.TableLaws.{bytes-le}
 use Rattle.codec.specs.Field.{writtenAt}

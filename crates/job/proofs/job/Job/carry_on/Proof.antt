@@ -14,8 +14,8 @@ use Rattle.cell.specs.Refusal.{Rule, Answered, answered, checked}
 use Rattle.cell.specs.declared.refusal.Status.the-variants as Status′
 use Rattle.cell.proofs.RefusalLaws.{rule-broken, rule-kept}
 use Rattle.job.specs.declared.job.Job.{Job}
-use Rattle.job.specs.declared.job.Stage.{Stage}
-use Rattle.job.specs.declared.job.Stage.the-variants.{Open}
+use Rattle.types.specs.declared.stage.Stage.{Stage}
+use Rattle.types.specs.declared.stage.Stage.the-variants.{Open}
 use Rattle.job.specs.Machine.{run}
 use Rattle.job.specs.Sound.{cap}
 use Rattle.job.specs.Calls.{callBudget, budgetRange, pastCap, ifOpen, carryOn, carried}
