@@ -49,13 +49,14 @@ static void print_witness(const uint8_t *at) {
     }
 }
 
-/* Prints what a call gave: the answer in the record, or the refusal. */
-static void print_answer(const char *name, const uint8_t *record, int64_t length) {
+/* Prints what a call gave: the corrections made with the answer in the record, or the refusal. */
+static void print_answer(const char *name, const uint8_t *record, int64_t length, uint32_t made) {
     printf("%s: ", name);
     if (length < 0) {
         printf("refused by %" PRId64 "\n", -length);
         return;
     }
+    printf("%" PRIu32 " corrections made, ", made);
     int n = record[1];
     const uint8_t *at = record + 2 + ((1 << n) + 7) / 8;
     switch (threshold_kind(record, (size_t)length)) {
@@ -66,7 +67,7 @@ static void print_answer(const char *name, const uint8_t *record, int64_t length
         print_witness(at);
         break;
     default:
-        printf("open after %" PRId32 " corrections, a job of %" PRId64 " bytes\n", number(&at), length);
+        printf("open at K %" PRId32 ", a job of %" PRId64 " bytes\n", number(&at), length);
         return;
     }
     printf("; checked: %s\n", threshold_check(record, (size_t)length) == 1 ? "yes" : "no");
@@ -74,18 +75,26 @@ static void print_answer(const char *name, const uint8_t *record, int64_t length
 
 int main(void) {
     uint8_t out[THRESHOLD_ROOM];
-    print_answer("both", out, threshold_decide(both, sizeof both, out, sizeof out));
+    uint32_t made = 0;
+    int64_t length = threshold_decide(both, sizeof both, out, sizeof out, &made);
+    print_answer("both", out, length, made);
 
-    int64_t length = threshold_decide(slow, sizeof slow, out, sizeof out);
-    print_answer("slow", out, length);
+    length = threshold_decide(slow, sizeof slow, out, sizeof out, &made);
+    print_answer("slow", out, length, made);
     if (length < 0 || threshold_kind(out, (size_t)length) != THRESHOLD_RECORD_JOB) {
         return 1;
     }
 
     uint8_t saved[THRESHOLD_ROOM];
-    memcpy(saved, out, (size_t)length);
-    print_answer("slow, no budget", out, threshold_carry_on(saved, (size_t)length, 0, out, sizeof out));
-    print_answer("slow, carried on", out, threshold_carry_on(saved, (size_t)length, THRESHOLD_CALL_BUDGET, out, sizeof out));
-    print_answer("slow, cut short", out, threshold_carry_on(saved, (size_t)length - 1, THRESHOLD_CALL_BUDGET, out, sizeof out));
+    size_t saved_length = (size_t)length;
+    memcpy(saved, out, saved_length);
+    length = threshold_carry_on(saved, saved_length, 0, out, sizeof out, &made);
+    print_answer("slow, no budget", out, length, made);
+    length = threshold_carry_on(saved, saved_length, THRESHOLD_CALL_BUDGET, out, sizeof out, &made);
+    print_answer("slow, carried on", out, length, made);
+    length = threshold_carry_on(saved, saved_length - 1, THRESHOLD_CALL_BUDGET, out, sizeof out, &made);
+    print_answer("slow, cut short", out, length, made);
+    length = threshold_decide(saved, saved_length, out, sizeof out, &made);
+    print_answer("slow, its job decided as a table", out, length, made);
     return 0;
 }

@@ -5,3 +5,4 @@ pub mod Shown
 pub mod Records
 pub mod Calls
 pub mod Lists
+pub mod Decided

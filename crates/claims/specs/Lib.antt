@@ -3,3 +3,4 @@ pub mod Jobs
 pub mod Records
 pub mod Lists
 pub mod Report
+pub mod Decided

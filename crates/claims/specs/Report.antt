@@ -8,9 +8,10 @@ use Rattle.types.specs.declared.table.Table.{Table}
 use Rattle.cell.specs.Refusal.{answered}
 use Rattle.job.specs.Machine.{fresh}
 use Rattle.job.specs.Calls.{callBudget, carryOn}
-use Rattle.reporting.specs.declared.progress.Step.the-variants.{Done}
+use Rattle.batch.specs.declared.progress.Step.the-variants.{Done}
 use Rattle.reporting.specs.Lines.{tooLongLine}
-use Rattle.reporting.specs.Report.{inputMost, decided, report, start, linesFrom, after}
+use Rattle.reporting.specs.Report.{inputMost, decided, report}
+use Rattle.batch.specs.Progress.{start, linesFrom, after}
 use Rattle.claims.specs.Jobs.{Taken}
 
 -- The lines that are made one after another are the report of the whole input, and after two lines more than the input has bytes the report

@@ -8,6 +8,7 @@ ghost use Rattle.theory.specs.Cases.{MarkedCases};
 ghost use Rattle.records.specs.Record.{ofTable, ofGate, ofWitness, ofJob};
 ghost use Rattle.claims.specs.Lists.{CallsAreTheMachine};
 ghost use Rattle.claims.specs.Report.{ReportIsItsLines};
+ghost use Rattle.claims.specs.Decided.{DecidedIsRight};
 ghost use Rattle.claims.specs.Records.{ReadsBack, WritesBack, RecordsAreWritten};
 ghost use Rattle.claims.specs.Jobs.{JobNumbersOnTheirConditions, SoundnessIsKept, ShownIsRight, CarryOnIsTheMachine, CorrectionsAreBounded, WhatFitsIsFound};
 ghost use Rattle.claims.specs.Claims.{NumbersOnTheirConditions, CheckerIsExact, WitnessExcludes, CheckedWitnessExcludes};
@@ -93,6 +94,13 @@ pub fn calls_are_the_machine(table: Table)
 pub fn report_is_its_lines()
     ensures { λ _. ⌜ ReportIsItsLines ⌝ }
 {}
+
+// Demand 2, of what a user meets: what a report says of the tables in any bytes, and what decide and carry-on of the C interface hand back.
+pub fn what_is_decided_is_right(bytes: &[u8])
+    ensures { λ _. ⌜ DecidedIsRight (now (bytes .entry)) ⌝ }
+{
+    nothing()
+}
 
 // Does nothing. A claim about a slice calls it: where a function calls another, its proof knows that the slice holds bytes.
 fn nothing() {}

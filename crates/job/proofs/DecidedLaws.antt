@@ -17,7 +17,7 @@ use Rattle.job.specs.Sound.{cap}
 use Rattle.job.specs.Calls.{callBudget, decidedJob, jobRules, budgetRange, pastCap, ifOpen, carryOn}
 use Rattle.job.proofs.MachineLaws.{fresh-table, fresh-k, open-or-ended, run-ended}
 use Rattle.job.proofs.SoundLaws.{is-sound-correct}
-use Rattle.job.proofs.FreshSound.{fresh-sound}
+use Rattle.job.proofs.Soundness.{fresh-sound}
 use Rattle.job.proofs.JobChecked.{job-all-kept, if-open-ended}
 
 module _ (t : Table) (kept : NoneBroken (tableRules t [])) where

@@ -1,15 +1,5 @@
 pub mod MachineLaws
 pub mod SoundLaws
-pub mod SoundBounds
-pub mod TraceLaws
-pub mod StepSound
-pub mod FreshSound
 pub mod Soundness
-pub mod SoundTest
-pub mod SteppingLaws
-pub mod CodeLaws
-pub mod ClearLaws
-pub mod HeldLaws
-pub mod ChunkLaws
 pub mod JobChecked
 pub mod DecidedLaws

@@ -19,11 +19,8 @@ use Rattle.job.specs.declared.job.Started.{Started}
 use Rattle.job.specs.declared.job.Carried.{Carried}
 use Rattle.job.specs.Machine.{run, fresh, startJob}
 use Rattle.machine.specs.Binate.{zeros}
+pub use Rattle.state.specs.Machine.{callBudget}
 use Rattle.job.specs.Sound.{cap, isSound}
-
--- the most corrections that one call may ask for
-abbrev pub callBudget : ℕ
-callBudget = 100000
 
 -- ---- fresh: 2, 3
 

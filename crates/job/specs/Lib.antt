@@ -1,4 +1,3 @@
 pub mod Machine
-pub mod Core
 pub mod Sound
 pub mod Calls

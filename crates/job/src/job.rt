@@ -1,19 +1,23 @@
 // A job: the state of the stepping machine on one table, made fresh and carried on.
-use crate::batch::decided_by;
-use crate::sound::is_sound;
-use crate::start::fresh_job;
-use crate::start::start_job;
-use crate::stepping::is_ended;
-use crate::stepping::steps;
 use cell::refusal::Status;
 use cell::refusal::table_status;
 use lanes::steps::step_table;
+use soundness::sound::CAP;
+use soundness::sound::is_sound;
+use stepping::decided::CALL_BUDGET;
+use stepping::decided::decided_by;
+use stepping::start::fresh_state;
+use stepping::start::start_state;
+use stepping::stepping::is_ended;
+use stepping::stepping::steps;
 use types::stage::Stage;
+use types::state::State;
 use types::table::Table;
 use types::vector::Vector;
 ghost use mathlib.Core.Path.{_≡_};
 ghost use Rattle.cell.specs.Answers.{status};
 ghost use Rattle.cell.specs.Refusal.{refused};
+ghost use Rattle.job.specs.Machine.{stateOf, jobOf};
 ghost use Rattle.job.specs.Calls.{jobChecked, freshJob, started, decidedJob, carryOn, carried};
 
 // K corrections made (k), the vector v, the mark M with the copy s of v taken there, and a count for each row since.
@@ -40,13 +44,50 @@ pub struct Carried {
     pub made: u32,
 }
 
+// Returns the machine's state of a job.
+fn state_of(job: Job) -> State
+    ensures { λ r. ⌜ r ≡ stateOf job ⌝ }
+{
+    let v = job.v;
+    let s = job.s;
+    let counts = job.counts;
+    let stage = job.stage;
+    State {
+        k: job.k,
+        v,
+        mark: job.mark,
+        s,
+        counts,
+        stage,
+    }
+}
+
+// Returns the job of a table and the machine's state on it.
+fn job_of(table: Table, state: State) -> Job
+    ensures { λ r. ⌜ r ≡ jobOf table state ⌝ }
+{
+    let v = state.v;
+    let s = state.s;
+    let counts = state.counts;
+    let stage = state.stage;
+    Job {
+        table,
+        k: state.k,
+        v,
+        mark: state.mark,
+        s,
+        counts,
+        stage,
+    }
+}
+
 // Returns the answer for a table that is refused: the job with all numbers 0.
 fn not_started(table: Table, number: u8) -> Started
     ensures { λ r. ⌜ r ≡ started table (refused number) ⌝ }
 {
     Started {
         status: Status::Refused(number),
-        job: start_job(table, [0u32; 256], Stage::Open),
+        job: job_of(table, start_state([0u32; 256], Stage::Open)),
     }
 }
 
@@ -59,7 +100,7 @@ pub fn job_status(job: Job) -> Status
     if let Status::Refused(number) = status {
         return Status::Refused(number);
     }
-    if !is_sound(job) {
+    if !is_sound(table, state_of(job)) {
         return Status::Refused(9);
     }
     Status::Done
@@ -67,10 +108,10 @@ pub fn job_status(job: Job) -> Status
 
 impl Job {
     // The most corrections of a job.
-    pub const CAP: u32 = 1_000_000;
+    pub const CAP: u32 = CAP;
 
     // The most corrections of one call.
-    pub const CALL_BUDGET: u32 = 100_000;
+    pub const CALL_BUDGET: u32 = CALL_BUDGET;
 
     // Returns the fresh job of a table: open, or binate with the counts that show it. Refusals: 2, 3.
     pub fn fresh(table: Table) -> Started
@@ -82,7 +123,7 @@ impl Job {
         }
         Started {
             status: Status::Done,
-            job: fresh_job(table),
+            job: job_of(table, fresh_state(table)),
         }
     }
 
@@ -97,7 +138,7 @@ impl Job {
         let steps = step_table();
         Started {
             status: Status::Done,
-            job: decided_by(table, &steps),
+            job: job_of(table, decided_by(table, &steps)),
         }
     }
 
@@ -124,8 +165,9 @@ impl Job {
         if Job::CAP - budget < self.k {
             return refused(self, 11);
         }
-        let table = step_table();
-        let next = steps(self, budget, &table);
+        let table = self.table;
+        let step = step_table();
+        let next = job_of(table, steps(table, state_of(self), budget, &step));
         let made = next.k - self.k;
         Carried {
             status: Status::Done,

@@ -19,7 +19,7 @@ use Rattle.types.specs.declared.stage.Stage.{Stage}
 use Rattle.types.specs.declared.stage.Stage.the-variants.{Open, Found, Looped, Binate}
 use Rattle.job.specs.Sound.{Sound}
 use Rattle.job.proofs.MachineLaws.{binate-ended}
-use Rattle.job.proofs.SoundBounds.{sound-current, sound-copied, sound-count}
+use Rattle.job.proofs.SoundLaws.{sound-current, sound-copied, sound-count}
 use Rattle.codec.specs.VectorField.{vectorBytes}
 use Rattle.codec.specs.RowList.{rowListBytes}
 use Rattle.codec.specs.Head.{headBytes}

@@ -8,6 +8,7 @@ use Rattle.cell.specs.Refusal.{answered, NoneBroken}
 use Rattle.cell.specs.Calls.{tableRules}
 use Rattle.cell.proofs.TableChecked.{kept-inputs}
 use Rattle.job.specs.Machine.{run, fresh}
+use Rattle.job.specs.Sound.{cap}
 use Rattle.job.specs.Calls.{callBudget, decidedJob}
 use Rattle.job.proofs.MachineLaws.{fresh-table, run-table}
 use Rattle.job.proofs.Soundness.{run-sound}
@@ -31,6 +32,6 @@ module _ (t : Table) (kept : NoneBroken (tableRules t [])) where
   decided-is = decided-answered t kept
 
   -- K is at most the cap
-  pub decided-capped : (decided t) .k ≤ 1000000
+  pub decided-capped : (decided t) .k ≤ cap
   unfolding decided
   decided-capped = run-sound t (kept-inputs t kept) callBudget (omega arith) .capped

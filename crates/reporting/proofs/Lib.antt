@@ -1,9 +1,7 @@
 pub mod DecidedLaws
-pub mod ReportLaws
 pub mod TextLaws
 pub mod LineWriting
 pub mod HeightLaws
 pub mod PairTextLaws
 pub mod RecordRoom
 pub mod RoomLaws
-pub mod AdvanceLaws

@@ -6,6 +6,7 @@ use Prim.Native.Nat.{ℕ, _+_, _≤_, _<_}
 use native.Mathlib.Omega.{arith}
 use lib.ListN.{length, set, length-append}
 use Rattle.codec.specs.Field.{writtenAt}
+use Rattle.reporting.specs.Lines.{lineRoom}
 use Rattle.codec.proofs.WrittenLaws.{Written, written-one, written-room, written-next}
 
 -- a text w goes into `old` at a position: `out` has its first bytes, and the rest is left to write from `here` on
@@ -29,10 +30,10 @@ module _ {old : List ℕ} {at : ℕ} {w out : List ℕ} {here : ℕ} (x y : List
     done = λ q. left .done (written-next out here x y (left .room) p q);
   }
 
--- with the last field a line, which is a text at the start, is written
-pub line-done : {old w out rest last : List ℕ} {here next : ℕ} → Left old 0 w out here rest → Written out here rest last next
-    → (next ≡ length w) × (last ≡ writtenAt old 0 w)
-line-done left p = let (n, l) = left .done p in (omega (arith, n), l)
+-- with the last field a line, which is a text at the start and has its room, is written
+pub line-done : {old w out rest last : List ℕ} {here next : ℕ} → Left old 0 w out here rest → Written out here rest last next → length w ≤ lineRoom
+    → ((next ≡ length w) × (last ≡ writtenAt old 0 w)) × (next ≤ lineRoom)
+line-done left p h = let (n, l) = left .done p in ((omega (arith, n), l), omega (arith, n))
 
 -- a byte that is stored is a field
 pub stored-byte : (out : List ℕ) (here b : ℕ) → here < length out → Written out here (b ∷ []) (set out here b) (here + 1)

@@ -16,6 +16,7 @@ use Rattle.table.specs.Table.{rows}
 use Rattle.table.specs.Witness.{countOf}
 use Rattle.table.proofs.TableLaws.{rows-le}
 use Rattle.job.specs.declared.job.Job.{Job}
+use Rattle.job.specs.Calls.{gateOf}
 use Rattle.types.specs.declared.stage.Stage.{Stage}
 use Rattle.types.specs.declared.stage.Stage.the-variants.{Open, Found, Looped, Binate}
 use Rattle.reporting.specs.Text.{decimal, signedText}
@@ -57,7 +58,7 @@ pub record Held (j : Job) : Type 0 where
 
 module _ (j : Job) (held : Held j) where
   -- the size, K, and each kind of verdict
-  size-most : up (size (j .v)) + dn (size (j .v)) ≤ 9 * 2 ^ 31
+  size-most : up (size (gateOf j)) + dn (size (gateOf j)) ≤ 9 * 2 ^ 31
   unfolding size
   size-most =
       let sum = weightedSum (j .v .a) (λ place. 1) in
@@ -67,14 +68,14 @@ module _ (j : Job) (held : Held j) where
   k-most : length (decimal (j .k)) ≤ 10
   k-most = decimal-most 9 (j .k) (omega (arith, held .k))
 
-  gate-most : j .table .n ≤ 8 → length (gateText (j .table .n) (j .k) (j .v)) ≤ 134
+  gate-most : j .table .n ≤ 8 → length (gateText (j .k) (gateOf j)) ≤ 134
   unfolding gateText size
   gate-most h =
-      let total = signed-most 10 (size (j .v)) (omega (arith, size-most)) in
+      let total = signed-most 10 (size (gateOf j)) (omega (arith, size-most)) in
       let threshold = signed-most 9 (j .v .b) (omega (arith, fits-size (held .threshold))) in
       simp length-append (omega (arith, k-most, total, weights-most (j .v .a) (held .weight) (j .table .n) 0, threshold))
 
-  witness-most : j .table .n ≤ 8 → length (witnessText (j .table) (j .k) (j .counts)) ≤ 3867
+  witness-most : j .table .n ≤ 8 → length (witnessText (j .k) (j .table) (j .counts)) ≤ 3867
   unfolding witnessText
   witness-most h =
       let tall = decimal-most 12 (height (j .table) (j .counts)) (omega (arith, height-most (j .table) (j .counts) (held .count) h)) in

@@ -1,10 +1,12 @@
--- The last line and the line of a refusal fit into the room of a line: a number has at most twenty digits. Assumes nothing.
+-- The last line and the line of a refusal fit into the room of a line: a number has at most twenty digits. No line is empty: it begins with
+-- a number. Assumes nothing.
 use Prim.Native.Nat.{ℕ, zero, suc, _/_, _%_, _≤_}
 use native.Mathlib.Omega.{arith}
 use lib.ListN.{length, length-append}
 use Rattle.reporting.specs.declared.tally.Tally.{Tally}
-use Rattle.reporting.specs.Lines.{lineRoom, refusalLine, meanTenths, meanText, lastLine}
-use Rattle.reporting.proofs.TextLaws.{decimal-twenty}
+use Rattle.job.specs.declared.job.Job.{Job}
+use Rattle.reporting.specs.Lines.{lineRoom, recordLine, refusalLine, meanTenths, meanText, lastLine}
+use Rattle.reporting.proofs.TextLaws.{decimal-twenty, decimal-some}
 
 -- the line of a refusal
 pub refusal-room : (position number : ℕ) → length (refusalLine position number) ≤ lineRoom
@@ -24,3 +26,17 @@ unfolding lastLine
 last-room t =
     simp length-append
     (omega (arith, decimal-twenty (t .records), decimal-twenty (t .gates), decimal-twenty (t .witnesses), decimal-twenty (t .opens), mean-most (t .gates) (t .sum)))
+
+-- ---- no line is empty
+
+pub record-some : (position : ℕ) (j : Job) → 1 ≤ length (recordLine position j)
+unfolding recordLine
+record-some position j = rw length-append (omega (arith, decimal-some position))
+
+pub refusal-some : (position number : ℕ) → 1 ≤ length (refusalLine position number)
+unfolding refusalLine
+refusal-some position number = rw length-append (omega (arith, decimal-some position))
+
+pub last-some : (t : Tally) → 1 ≤ length (lastLine t)
+unfolding lastLine
+last-some t = rw length-append (omega (arith, decimal-some (t .records)))

@@ -1,5 +1,4 @@
 -- The lines of a report (document 01, "Kinds, Chow, report"). Definitions only. Assumes nothing.
-use mathlib.Core.Bool.{Bool, true, false}
 use mathlib.Core.List.{List, [], _∷_, _++_}
 use Prim.Native.Nat.{ℕ, zero, suc, _+_, _*_, _/_, _%_}
 use lib.Count.{ones}
@@ -9,10 +8,11 @@ use Rattle.numbers.specs.Sum.{sumBelow, weightedSum}
 use Rattle.types.specs.declared.table.Table.{Table}
 use Rattle.table.specs.Table.{rows, value}
 use Rattle.table.specs.Witness.{onlyIf, countOf}
-use Rattle.types.specs.declared.vector.Vector.{Vector}
+use Rattle.types.specs.declared.gate.Gate.{Gate}
 use Rattle.job.specs.declared.job.Job.{Job}
 use Rattle.types.specs.declared.stage.Stage.{Stage}
 use Rattle.types.specs.declared.stage.Stage.the-variants.{Open, Found, Looped, Binate}
+use Rattle.job.specs.Calls.{gateOf}
 use Rattle.reporting.specs.declared.tally.Tally.{Tally}
 use Rattle.reporting.specs.Text.{decimal, signedText, spaced, lineFeed}
 
@@ -23,18 +23,19 @@ lineRoom = 4096
 -- ---- G: K, size, weights, T
 
 -- the sum of the weights plus T
-unfoldable pub size : Vector → ℤ
+unfoldable pub size : Gate → ℤ
 unfolding weightedSum
-size v = weightedSum (v .a) (λ place. 1) +ℤ v .b
+size g = weightedSum (g .weights) (λ place. 1) +ℤ g .threshold
 
 -- so many weights from a place on
 unfoldable pub weightsText : List ℤ → ℕ → ℕ → List ℕ
 weightsText a zero place = []
 weightsText a (suc left) place = spaced (signedText (getD a place (pos 0))) ++ weightsText a left (suc place)
 
-unfoldable pub gateText : ℕ → ℕ → Vector → List ℕ
+unfoldable pub gateText : ℕ → Gate → List ℕ
 unfolding weightsText size
-gateText n k v = spaced (71 ∷ []) ++ (spaced (decimal k) ++ (spaced (signedText (size v)) ++ (weightsText (v .a) n 0 ++ spaced (signedText (v .b)))))
+gateText k g =
+    spaced (71 ∷ []) ++ (spaced (decimal k) ++ (spaced (signedText (size g)) ++ (weightsText (g .weights) (g .n) 0 ++ spaced (signedText (g .threshold)))))
 
 -- ---- N: K, height, row:count pairs
 
@@ -53,9 +54,9 @@ unfoldable pub pairsText : List ℕ → ℕ → ℕ → List ℕ
 pairsText counts zero row = []
 pairsText counts (suc left) row = pairText row (countOf counts row) ++ pairsText counts left (suc row)
 
-unfoldable pub witnessText : Table → ℕ → List ℕ → List ℕ
+unfoldable pub witnessText : ℕ → Table → List ℕ → List ℕ
 unfolding height pairsText
-witnessText t k counts = spaced (78 ∷ []) ++ (spaced (decimal k) ++ (spaced (decimal (height t counts)) ++ pairsText counts (rows t) 0))
+witnessText k t counts = spaced (78 ∷ []) ++ (spaced (decimal k) ++ (spaced (decimal (height t counts)) ++ pairsText counts (rows t) 0))
 
 -- ---- S: K
 
@@ -66,9 +67,9 @@ openText k = spaced (83 ∷ []) ++ spaced (decimal k)
 
 abbrev pub verdictText : Stage → Job → List ℕ
 verdictText Open j = openText (j .k)
-verdictText Found j = gateText (j .table .n) (j .k) (j .v)
-verdictText Looped j = witnessText (j .table) (j .k) (j .counts)
-verdictText Binate j = witnessText (j .table) (j .k) (j .counts)
+verdictText Found j = gateText (j .k) (gateOf j)
+verdictText Looped j = witnessText (j .k) (j .table) (j .counts)
+verdictText Binate j = witnessText (j .k) (j .table) (j .counts)
 
 unfoldable pub recordLine : ℕ → Job → List ℕ
 recordLine position j = decimal position ++ (spaced (decimal (j .table .n)) ++ (verdictText (j .stage) j ++ lineFeed))

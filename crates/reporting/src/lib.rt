@@ -1,5 +1,4 @@
-// The lines of a report, made one after another in a lent buffer. The functions ask for room.
+// The lines of a report, each made in a lent buffer. The functions ask for room.
 pub mod line;
-pub mod progress;
 pub mod tally;
 pub mod text;

@@ -1,4 +1,4 @@
-// The lines of a report, each made at the start of a lent buffer. The functions return its length.
+// The lines of a report, each made at the start of a lent buffer that has room for every line. The functions return its length.
 use crate::tally::Tally;
 use crate::text::put_byte;
 use crate::text::put_decimal;
@@ -8,55 +8,60 @@ use crate::text::put_signed;
 use job::job::Job;
 use table::table::row_count;
 use table::table::row_value;
+use types::gate::Gate;
 use types::stage::Stage;
 use types::table::Table;
-use types::vector::Vector;
 ghost use mathlib.Core.Path.{_≡_};
 ghost use Prim.Native.Nat.{_+_, _*_, _≤_, _<_};
 ghost use lib.Count.{ones};
 ghost use lib.ListN.{length};
+ghost use Rattle.job.specs.Calls.{gateOf};
 ghost use Rattle.codec.specs.Field.{writtenAt};
-ghost use Rattle.reporting.specs.Lines.{size, weightsText, gateText, height, pairText, pairsText, witnessText, verdictText, recordLine, refusalLine, tooLongLine, meanText, lastLine};
+ghost use Rattle.reporting.specs.Lines.{size, weightsText, gateText, height, pairText, pairsText, witnessText, verdictText, recordLine, refusalLine, tooLongLine, meanText, lastLine, lineRoom};
+ghost use Rattle.reporting.specs.Report.{inputMost, sumMost, Within};
+
+// The room that every line fits into.
+pub const LINE_ROOM: usize = 4096;
 
 // Returns the sum of the weights plus T.
-fn size_of(v: Vector) -> i64
-    ensures { λ r. ⌜ r ≡ size v ⌝ }
+fn size_of(gate: Gate) -> i64
+    ensures { λ r. ⌜ r ≡ size gate ⌝ }
 {
-    let a = v.a;
+    let weights = gate.weights;
     let mut sum: i64 = 0;
     let mut place: usize = 0;
     while place < 8 {
-        sum = sum + a[place] as i64;
+        sum = sum + weights[place] as i64;
         place = place + 1;
     }
-    sum + v.b as i64
+    sum + gate.threshold as i64
 }
 
 // Writes n weights.
-fn put_weights(out: &mut [u8], at: usize, a: [i32; 8], n: u8) -> usize
-    requires { ⌜ (n ≤ 8) × (at + length (weightsText a n 0) ≤ length (now out)) ⌝ }
-    ensures { λ r. ⌜ (r ≡ at + length (weightsText a n 0)) × (now (out .exit) ≡ writtenAt (now (out .entry)) at (weightsText a n 0)) ⌝ }
+fn put_weights(out: &mut [u8], at: usize, weights: [i32; 8], n: u8) -> usize
+    requires { ⌜ (n ≤ 8) × (at + length (weightsText weights n 0) ≤ length (now out)) ⌝ }
+    ensures { λ r. ⌜ (r ≡ at + length (weightsText weights n 0)) × (now (out .exit) ≡ writtenAt (now (out .entry)) at (weightsText weights n 0)) ⌝ }
 {
     let mut here = at;
     let mut place: usize = 0;
     while place < n as usize {
-        here = put_signed(out, here, a[place] as i64);
+        here = put_signed(out, here, weights[place] as i64);
         place = place + 1;
     }
     here
 }
 
 // Writes G, K, size, weights and T.
-fn put_gate(out: &mut [u8], at: usize, n: u8, k: u32, v: Vector) -> usize
-    requires { ⌜ (n ≤ 8) × (at + length (gateText n k v) ≤ length (now out)) ⌝ }
-    ensures { λ r. ⌜ (r ≡ at + length (gateText n k v)) × (now (out .exit) ≡ writtenAt (now (out .entry)) at (gateText n k v)) ⌝ }
+fn put_gate(out: &mut [u8], at: usize, k: u32, gate: Gate) -> usize
+    requires { ⌜ (gate .n ≤ 8) × (at + length (gateText k gate) ≤ length (now out)) ⌝ }
+    ensures { λ r. ⌜ (r ≡ at + length (gateText k gate)) × (now (out .exit) ≡ writtenAt (now (out .entry)) at (gateText k gate)) ⌝ }
 {
-    let a = v.a;
+    let weights = gate.weights;
     let mut here = put_letter(out, at, b'G');
     here = put_number(out, here, k as u64);
-    here = put_signed(out, here, size_of(v));
-    here = put_weights(out, here, a, n);
-    put_signed(out, here, v.b as i64)
+    here = put_signed(out, here, size_of(gate));
+    here = put_weights(out, here, weights, gate.n);
+    put_signed(out, here, gate.threshold as i64)
 }
 
 // Returns a row's count × its true inputs, which are counted in the bits of its number.
@@ -112,14 +117,27 @@ fn put_pairs(out: &mut [u8], at: usize, counts: &[u32; 256], rows: usize) -> usi
 }
 
 // Writes N, K, height and pairs.
-fn put_witness(out: &mut [u8], at: usize, table: Table, k: u32, counts: &[u32; 256]) -> usize
-    requires { ⌜ (table .n ≤ 8) × (at + length (witnessText table k (now counts)) ≤ length (now out)) ⌝ }
-    ensures { λ r. ⌜ (r ≡ at + length (witnessText table k (now (counts .entry)))) × (now (out .exit) ≡ writtenAt (now (out .entry)) at (witnessText table k (now (counts .entry)))) ⌝ }
+fn put_witness(out: &mut [u8], at: usize, k: u32, table: Table, counts: &[u32; 256]) -> usize
+    requires { ⌜ (table .n ≤ 8) × (at + length (witnessText k table (now counts)) ≤ length (now out)) ⌝ }
+    ensures { λ r. ⌜ (r ≡ at + length (witnessText k table (now (counts .entry)))) × (now (out .exit) ≡ writtenAt (now (out .entry)) at (witnessText k table (now (counts .entry)))) ⌝ }
 {
     let mut here = put_letter(out, at, b'N');
     here = put_number(out, here, k as u64);
     here = put_number(out, here, height_of(table, counts));
     put_pairs(out, here, counts, row_count(table.n))
+}
+
+// Returns the gate of a found job.
+fn gate_of(job: Job) -> Gate
+    ensures { λ r. ⌜ r ≡ gateOf job ⌝ }
+{
+    let v = job.v;
+    let weights = v.a;
+    Gate {
+        n: job.table.n,
+        weights,
+        threshold: v.b,
+    }
 }
 
 // Writes what a job's stage has to say.
@@ -135,16 +153,17 @@ fn put_verdict(out: &mut [u8], at: usize, job: Job) -> usize
             let here = put_letter(out, at, b'S');
             put_number(out, here, job.k as u64)
         }
-        Stage::Found => put_gate(out, at, table.n, job.k, job.v),
-        Stage::Looped => put_witness(out, at, table, job.k, &counts),
-        Stage::Binate => put_witness(out, at, table, job.k, &counts),
+        Stage::Found => put_gate(out, at, job.k, gate_of(job)),
+        Stage::Looped => put_witness(out, at, job.k, table, &counts),
+        Stage::Binate => put_witness(out, at, job.k, table, &counts),
     }
 }
 
 // Makes the line of a record: position, n, then G, N or S.
 pub fn record_line(out: &mut [u8], position: u64, job: Job) -> usize
-    requires { ⌜ (job .table .n ≤ 8) × (length (recordLine position job) ≤ length (now out)) ⌝ }
+    requires { ⌜ (job .table .n ≤ 8) × (lineRoom ≤ length (now out)) ⌝ }
     ensures { λ r. ⌜ (r ≡ length (recordLine position job)) × (now (out .exit) ≡ writtenAt (now (out .entry)) 0 (recordLine position job)) ⌝ }
+    ensures { λ r. ⌜ r ≤ lineRoom ⌝ }
 {
     let mut here = put_decimal(out, 0, position);
     here = put_number(out, here, job.table.n as u64);
@@ -154,8 +173,9 @@ pub fn record_line(out: &mut [u8], position: u64, job: Job) -> usize
 
 // Makes the line of a refusal: position, R, number.
 pub fn refusal_line(out: &mut [u8], position: u64, number: u8) -> usize
-    requires { ⌜ length (refusalLine position number) ≤ length (now out) ⌝ }
+    requires { ⌜ lineRoom ≤ length (now out) ⌝ }
     ensures { λ r. ⌜ (r ≡ length (refusalLine position number)) × (now (out .exit) ≡ writtenAt (now (out .entry)) 0 (refusalLine position number)) ⌝ }
+    ensures { λ r. ⌜ r ≤ lineRoom ⌝ }
 {
     let mut here = put_decimal(out, 0, position);
     here = put_letter(out, here, b'R');
@@ -165,7 +185,7 @@ pub fn refusal_line(out: &mut [u8], position: u64, number: u8) -> usize
 
 // Writes the mean of K in tenths, half up, or "-" if there is none.
 fn put_mean(out: &mut [u8], at: usize, gates: u64, sum: u64) -> usize
-    requires { ⌜ (gates ≤ 65536) × (sum ≤ 65536000000) × (at + length (meanText gates sum) ≤ length (now out)) ⌝ }
+    requires { ⌜ (gates ≤ inputMost) × (sum ≤ sumMost) × (at + length (meanText gates sum) ≤ length (now out)) ⌝ }
     ensures { λ r. ⌜ (r ≡ at + length (meanText gates sum)) × (now (out .exit) ≡ writtenAt (now (out .entry)) at (meanText gates sum)) ⌝ }
 {
     if gates == 0 {
@@ -179,8 +199,9 @@ fn put_mean(out: &mut [u8], at: usize, gates: u64, sum: u64) -> usize
 
 // Makes the last line: records read whole, the numbers of G, N and S, and the mean.
 pub fn last_line(out: &mut [u8], tally: Tally) -> usize
-    requires { ⌜ (tally .gates ≤ 65536) × (tally .sum ≤ 65536000000) × (length (lastLine tally) ≤ length (now out)) ⌝ }
+    requires { ⌜ Within tally × (lineRoom ≤ length (now out)) ⌝ }
     ensures { λ r. ⌜ (r ≡ length (lastLine tally)) × (now (out .exit) ≡ writtenAt (now (out .entry)) 0 (lastLine tally)) ⌝ }
+    ensures { λ r. ⌜ r ≤ lineRoom ⌝ }
 {
     let mut here = put_decimal(out, 0, tally.records);
     here = put_number(out, here, tally.gates);
@@ -193,8 +214,8 @@ pub fn last_line(out: &mut [u8], tally: Tally) -> usize
 
 // Makes the only line of an input that is too long.
 pub fn too_long_line(out: &mut [u8]) -> usize
-    requires { ⌜ 5 ≤ length (now out) ⌝ }
-    ensures { λ r. ⌜ (r ≡ 5) × (now (out .exit) ≡ writtenAt (now (out .entry)) 0 tooLongLine) ⌝ }
+    requires { ⌜ lineRoom ≤ length (now out) ⌝ }
+    ensures { λ r. ⌜ (r ≡ length tooLongLine) × (now (out .exit) ≡ writtenAt (now (out .entry)) 0 tooLongLine) ⌝ }
 {
     out[0] = b'R';
     out[1] = b' ';

@@ -1,8 +1,7 @@
 // The numbers of a report's last line.
 use types::stage::Stage;
 ghost use mathlib.Core.Path.{_≡_};
-ghost use Prim.Native.Nat.{_≤_};
-ghost use Rattle.reporting.specs.Report.{noTally, counted};
+ghost use Rattle.reporting.specs.Report.{noTally, Within, counted};
 
 // Records read whole, the G, N and S lines, and the sum of K over the G lines.
 pub struct Tally {
@@ -28,7 +27,7 @@ pub fn no_tally() -> Tally
 
 // Returns the tally with one record more.
 pub fn with_record(tally: Tally, stage: Stage, k: u32) -> Tally
-    requires { ⌜ (tally .records ≤ 65536) × (tally .gates ≤ 65536) × (tally .witnesses ≤ 65536) × (tally .opens ≤ 65536) × (tally .sum ≤ 65536000000) ⌝ }
+    requires { ⌜ Within tally ⌝ }
     ensures { λ r. ⌜ r ≡ counted stage k tally ⌝ }
 {
     let mut next = tally;

@@ -38,7 +38,8 @@ use Rattle.job.specs.Calls.{gateOf, witnessOf}
 use Rattle.machine.proofs.HighestLaws.{highest-le}
 use Rattle.machine.proofs.FailingLaws.{failing-none}
 use Rattle.machine.proofs.RangeLaws.{in-range-correct, in-range-wider}
-use Rattle.job.proofs.SoundBounds.{sound-in, sound-current, sound-count, sound-past, side-sum-term}
+use Rattle.state.proofs.SoundBounds.{side-sum-term}
+use Rattle.job.proofs.SoundLaws.{sound-in, sound-current, sound-count, sound-past}
 use Rattle.theory.proofs.Binate.{binate-sums}
 
 -- ---- found

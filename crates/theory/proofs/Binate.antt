@@ -20,8 +20,8 @@ use Rattle.table.proofs.InputLaws.{turns-at-correct, first-turn-some}
 use Rattle.machine.specs.Binate.{oneMore, zeros, binateAt, binatePlace, pairMore, binateCounts}
 use Rattle.machine.proofs.VectorLaws.{length-one-more}
 use Rattle.machine.proofs.DistanceLaws.{unit, partner-level}
-use Rattle.job.proofs.SoundLaws.{length-pair-more}
-use Rattle.job.proofs.TraceLaws.{side-sum-one-more, side-sum-zeros}
+use Rattle.state.proofs.SoundLaws.{length-pair-more}
+use Rattle.state.proofs.TraceLaws.{side-sum-one-more, side-sum-zeros}
 
 -- ---- the levels of a partner
 

@@ -8,15 +8,17 @@ use Rattle.table.specs.Inputs.{firstTurn}
 use Rattle.table.specs.Chow.{chowOf}
 use Rattle.machine.specs.Failing.{fails, failing}
 use Rattle.machine.specs.Vector.{addLevels, correctedBy, sameList, sameVector}
-use Rattle.job.specs.Machine.{corrected, marked, settled, closed, stepIn, step, run, fresh}
+use Rattle.state.specs.Machine.{corrected, marked, settled, closed, stepIn}
+use Rattle.state.specs.Machine as state
+use Rattle.job.specs.Machine.{run, fresh}
 use Rattle.machine.specs.Power.{highest}
 use Rattle.machine.specs.Binate.{binateAt, binatePlace, binateCounts}
-use Rattle.job.specs.Sound.{isTraced, soundIn, isSound}
+use Rattle.state.specs.Sound.{isTraced, soundIn, isSound}
 use Rattle.theory.specs.Cases.{MarkedCases}
 
 -- m1 to m10 hold
 pub marked-cases : MarkedCases
-unfolding leadingZeros bitAt spareSet distance inRange balances unfit firstTurn chowOf fails failing addLevels correctedBy corrected sameList sameVector highest marked settled closed stepIn step run binateAt binatePlace binateCounts fresh isTraced soundIn isSound
+unfolding leadingZeros bitAt spareSet distance inRange balances unfit firstTurn chowOf fails failing addLevels correctedBy corrected sameList sameVector highest marked settled closed stepIn state.step state.run run binateAt binatePlace binateCounts state.fresh fresh isTraced soundIn isSound
 marked-cases = record {
   m1 = record { stage = refl; corrections = refl; vector = refl };
   m2 = record { stage = refl; corrections = refl; vector = refl };

@@ -16,8 +16,7 @@ use Rattle.job.specs.Sound.{cap}
 use Rattle.job.proofs.MachineLaws.{step-k, fresh-table, fresh-k, run-suc, run-table}
 use Rattle.theory.specs.Bound.{factor}
 use Rattle.theory.proofs.Bound.{bound-on-k}
-use Rattle.job.proofs.FreshSound.{fresh-sound}
-use Rattle.job.proofs.Soundness.{run-sound, sound-goes, run-growth-open}
+use Rattle.job.proofs.Soundness.{fresh-sound, run-sound, sound-goes, run-growth-open}
 use Rattle.theory.proofs.Answers.{EndedWithout, ended-excludes}
 
 module _ (t : Table) (small : t .n ≤ 8) (ws : List ℤ) (th : ℤ) (g : Realises ws th t) where

@@ -1,7 +1,7 @@
 -- The machine is a perceptron: its v comes of K corrections of the vector 0, each by a row of the table at which the margin is at most 0.
--- The invariant is of the table, K and v alone; a step that corrects by no row, and what follows a correction, leave them as they are.
+-- The invariant is of K and v alone; a step that corrects by no row, and what follows a correction, leave them as they are.
 -- Assumes nothing.
-use mathlib.Core.Path.{_≡_, refl, _∙_, subst}
+use mathlib.Core.Path.{_≡_, refl, _∙_}
 use mathlib.Core.Bool.{Bool, true, false}
 use mathlib.Core.Option.{Option, some, none}
 use Prim.Native.Nat.{ℕ, zero, suc, _+_, _<_}
@@ -16,68 +16,69 @@ use Rattle.types.specs.declared.table.Table.{Table}
 use Rattle.table.specs.Table.{rows, level, value}
 use Rattle.table.specs.Gate.{distance}
 use Rattle.types.specs.declared.vector.Vector.{Vector}
-use Rattle.job.specs.declared.job.Job.{Job}
 use Rattle.types.specs.declared.stage.Stage.{Stage}
 use Rattle.types.specs.declared.stage.Stage.the-variants.{Open, Found, Looped, Binate}
+use Rattle.types.specs.declared.state.State.{State}
 use Rattle.machine.specs.Failing.{fails, failing}
 use Rattle.machine.specs.Vector.{correctedBy, sameVector, zeroVector}
-use Rattle.job.specs.Machine.{corrected, markIf, marked, settleBy, settled, closeIf, closed, stepBy, stepIn, step, run, freshBy, fresh}
+use Rattle.state.specs.Machine.{freshBy, markIf, marked, settleBy, corrected, settled, closeIf, closed, stepBy, stepIn}
+use Rattle.state.specs.Machine as state
+use Rattle.job.specs.Machine.{run, fresh}
 use Rattle.machine.specs.Power.{highest}
 use Rattle.machine.specs.Binate.{binatePlace}
 use Rattle.machine.specs.Vector.{component}
 use Rattle.machine.proofs.VectorLaws.{length-corrected, component-corrected}
 use Rattle.machine.proofs.FailingLaws.{failing-some}
-use Rattle.job.proofs.MachineLaws.{fresh-table, run-table}
 use Rattle.theory.proofs.Perceptron.{dot, Added, Walk, start, more}
 use Rattle.theory.proofs.Corrections.{correction, correction-dot}
 
--- ---- facts of the table, K and v
+-- ---- facts of K and v on a table
 
-module _ (P : Table → ℕ → Vector → Type 0)
-    (keeps : (t : Table) (k : ℕ) (v : Vector) (r : ℕ) → failing t v ≡ some r → P t k v → P t (k + 1) (correctedBy (value t r) r v)) where
-  -- the fact, of a job
-  abbrev pub Holds : Job → Type 0
-  Holds j = P (j .table) (j .k) (j .v)
+module _ (t : Table) (P : ℕ → Vector → Type 0)
+    (keeps : (k : ℕ) (v : Vector) (r : ℕ) → failing t v ≡ some r → P k v → P (k + 1) (correctedBy (value t r) r v)) where
+  -- the fact, of a state
+  abbrev pub Holds : State → Type 0
+  Holds x = P (x .k) (x .v)
 
-  mark-keeps : (b : Bool) (j : Job) → Holds j → Holds (markIf b j)
-  mark-keeps true j p = p
-  mark-keeps false j p = p
+  mark-keeps : (b : Bool) (x : State) → Holds x → Holds (markIf b x)
+  mark-keeps true x p = p
+  mark-keeps false x p = p
 
-  settle-keeps : (o : Option ℕ) (j : Job) → Holds j → Holds (settleBy o j)
-  settle-keeps none j p = p
-  settle-keeps (some r) j p = p
+  settle-keeps : (o : Option ℕ) (x : State) → Holds x → Holds (settleBy o x)
+  settle-keeps none x p = p
+  settle-keeps (some r) x p = p
 
-  close-keeps : (b : Bool) (j : Job) → Holds j → Holds (closeIf b j)
+  close-keeps : (b : Bool) (x : State) → Holds x → Holds (closeIf t b x)
   unfolding settled marked
-  close-keeps true j p = p
-  close-keeps false j p = settle-keeps (failing ((marked j) .table) ((marked j) .v)) (marked j) (mark-keeps (eqb (highest (j .k)) (j .k)) j p)
+  close-keeps true x p = p
+  close-keeps false x p = settle-keeps (failing t ((marked x) .v)) (marked x) (mark-keeps (eqb (highest (x .k)) (x .k)) x p)
 
-  step-by-keeps : (o : Option ℕ) (j : Job) → failing (j .table) (j .v) ≡ o → Holds j → Holds (stepBy o j)
+  step-by-keeps : (o : Option ℕ) (x : State) → failing t (x .v) ≡ o → Holds x → Holds (stepBy t o x)
   unfolding corrected closed
-  step-by-keeps none j e p = p
-  step-by-keeps (some r) j e p = close-keeps (sameVector ((corrected r j) .v) (j .s)) (corrected r j) (keeps (j .table) (j .k) (j .v) r e p)
+  step-by-keeps none x e p = p
+  step-by-keeps (some r) x e p = close-keeps (sameVector ((corrected t r x) .v) (x .s)) (corrected t r x) (keeps (x .k) (x .v) r e p)
 
-  step-in-keeps : (s : Stage) (j : Job) → Holds j → Holds (stepIn s j)
+  step-in-keeps : (s : Stage) (x : State) → Holds x → Holds (stepIn t s x)
   unfolding stepIn
-  step-in-keeps Open j p = step-by-keeps (failing (j .table) (j .v)) j refl p
-  step-in-keeps Found j p = p
-  step-in-keeps Looped j p = p
-  step-in-keeps Binate j p = p
+  step-in-keeps Open x p = step-by-keeps (failing t (x .v)) x refl p
+  step-in-keeps Found x p = p
+  step-in-keeps Looped x p = p
+  step-in-keeps Binate x p = p
 
-  -- a fact of the table, K and v that a correction by the lowest failing row keeps is kept by a run
-  pub run-keeps : (m : ℕ) (j : Job) → Holds j → Holds (run m j)
-  unfolding run step
-  run-keeps zero j p = p
-  run-keeps (suc m) j p = run-keeps m (step j) (step-in-keeps (j .stage) j p)
+  -- a fact of K and v that a correction by the lowest failing row keeps is kept by a run
+  pub run-keeps : (m : ℕ) (x : State) → Holds x → Holds (state.run t m x)
+  unfolding state.run state.step
+  run-keeps zero x p = p
+  run-keeps (suc m) x p = run-keeps m (state.step t x) (step-in-keeps (x .stage) x p)
 
-  fresh-by-keeps : (t : Table) (o : Option ℕ) → P t 0 zeroVector → Holds (freshBy t o)
-  fresh-by-keeps t none p = p
-  fresh-by-keeps t (some place) p = p
+  fresh-by-keeps : (o : Option ℕ) → P 0 zeroVector → Holds (freshBy t o)
+  fresh-by-keeps none p = p
+  fresh-by-keeps (some place) p = p
 
   -- so it holds after a run of the fresh job where it holds of K 0 and v 0
-  pub fresh-keeps : (t : Table) (m : ℕ) → P t 0 zeroVector → Holds (run m (fresh t))
-  unfolding fresh
-  fresh-keeps t m p = run-keeps m (fresh t) (fresh-by-keeps t (binatePlace t) p)
+  pub fresh-keeps : (m : ℕ) → P 0 zeroVector → P ((run m (fresh t)) .k) ((run m (fresh t)) .v)
+  unfolding state.fresh run fresh
+  fresh-keeps m p = run-keeps m (state.fresh t) (fresh-by-keeps (binatePlace t) p)
 
 -- ---- the walk
 
@@ -117,6 +118,4 @@ zero-walked t = record { places = refl; walk = start zero-component }
 
 -- after any number of steps of the fresh job, v comes of K corrections
 pub run-walked : (t : Table) (m : ℕ) → Walked t ((run m (fresh t)) .k) ((run m (fresh t)) .v)
-run-walked t m =
-    let j = run m (fresh t) in
-    subst (λ (x : Table). Walked x (j .k) (j .v)) (run-table m (fresh t) ∙ fresh-table t) (fresh-keeps Walked walked-keeps t m (zero-walked t))
+run-walked t m = fresh-keeps t (Walked t) (walked-keeps t) m (zero-walked t)

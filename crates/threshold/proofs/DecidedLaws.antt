@@ -1,5 +1,5 @@
--- The jobs whose outcome is written keep their rules: the job of a table after one carry-on, and a job that was carried on. Assumes
--- nothing.
+-- The jobs whose outcome is written keep their rules, and K has grown by the corrections made: the job of a table after one carry-on, and
+-- a job that was carried on. Assumes nothing.
 use mathlib.Core.Path.{_≡_, refl, sym, _∙_, ap, subst}
 use mathlib.Core.Logic.{_≢_}
 use mathlib.Core.List.{[], _∷_}
@@ -19,10 +19,11 @@ use Rattle.types.specs.declared.stage.Stage.the-variants.{Open}
 use Rattle.job.specs.Machine.{run, fresh}
 use Rattle.job.specs.Sound.{cap, Sound}
 use Rattle.job.specs.Calls.{callBudget, freshJob, jobRules, budgetRange, pastCap, ifOpen, carryOn, carried}
+use Rattle.threshold.specs.Result.{andThen, withMade}
+use Rattle.threshold.specs.Interface.{outcomeWritten, handedBack}
 use Rattle.job.proofs.MachineLaws.{fresh-table, fresh-k, open-or-ended, run-ended, run-table}
 use Rattle.job.proofs.SoundLaws.{is-sound-correct}
-use Rattle.job.proofs.FreshSound.{fresh-sound}
-use Rattle.job.proofs.Soundness.{run-sound-from}
+use Rattle.job.proofs.Soundness.{fresh-sound, run-sound-from}
 use Rattle.job.proofs.JobChecked.{kept-sound, job-others-kept, job-all-kept, if-open-ended}
 
 -- a run of a job that keeps its rules keeps them, as long as K cannot pass the cap
@@ -45,6 +46,14 @@ module _ (t : Table) (kept : NoneBroken (tableRules t [])) where
   pub decided-kept : NoneBroken (jobRules (run callBudget (fresh t)) [])
   decided-kept = run-kept (fresh t) callBudget fresh-kept sound (omega (arith, fresh-k t))
 
+-- a fresh job has made no corrections: K is how many were made since
+grown : (room : ℕ) (before after : Job) → before .k ≡ 0 → withMade (after .k) (outcomeWritten room after) ≡ handedBack room before after
+grown room before after e = ap (λ (made : ℕ). withMade made (outcomeWritten room after)) (omega arith)
+
+pub decided-handed : (t : Table) (room : ℕ) {j : Job} → j ≡ run callBudget (fresh t)
+    → withMade (j .k) (outcomeWritten room j) ≡ handedBack room (fresh t) (run callBudget (fresh t))
+decided-handed t room e = ap (λ (j : Job). withMade (j .k) (outcomeWritten room j)) e ∙ grown room (fresh t) (run callBudget (fresh t)) (fresh-k t)
+
 -- ---- a carry-on
 
 -- r is what the call returned for the job j, a what it comes to
@@ -62,6 +71,18 @@ module _ (j : Job) (a : Answered Job) {r : Carried} (says : r ≡ carried j a) w
   carried-done e = by a (ap (λ (x : Carried). x .status) (sym says) ∙ e) ∙ ap (λ (x : Carried). answered (x .job)) (sym says)
     where
       by : (x : Answered Job) → carried j x .status ≡ Status′.Done → x ≡ answered (carried j x .job)
+      by (answered next) q = refl
+      by (refused m) q = let z : _≡_ {A = ℕ} 0 1 = cc in absurd (omega arith)
+
+  -- which is handed back with the corrections made
+  pub carried-handed : (room : ℕ) → r .status ≡ Status′.Done
+      → withMade (r .made) (outcomeWritten room (r .job)) ≡ andThen a (handedBack room j)
+  carried-handed room e =
+      ap (λ (x : Carried). withMade (x .made) (outcomeWritten room (x .job))) says
+      ∙ by a (ap (λ (x : Carried). x .status) (sym says) ∙ e)
+    where
+      by : (x : Answered Job) → carried j x .status ≡ Status′.Done
+          → withMade (carried j x .made) (outcomeWritten room (carried j x .job)) ≡ andThen x (handedBack room j)
       by (answered next) q = refl
       by (refused m) q = let z : _≡_ {A = ℕ} 0 1 = cc in absurd (omega arith)
 

@@ -16,7 +16,7 @@ use Rattle.cell.specs.Answers.{answer}
 use Rattle.records.specs.declared.write.Written.{Written}
 use Rattle.records.specs.declared.write.Written.the-variants as Written′
 use Rattle.records.specs.Calls.{written, lent}
-use Rattle.threshold.specs.Result.{asResult, said, measured, fitted, answerOf}
+use Rattle.threshold.specs.Result.{asResult, said, measured, fitted, Handed, withMade, bytesOf, madeAfter, answerOf}
 
 -- ---- a call that writes
 
@@ -68,6 +68,36 @@ fitted-length room bytes {n} = by (ltb room (length bytes))
     by : (b : Bool) → written (refuseIf b 12 (answered bytes)) ≡ Written′.Bytes n → n ≡ length bytes
     by true e = let z : _≡_ {A = ℕ} 0 1 = cc in absurd (omega arith)
     by false e = cc
+
+-- ---- a call that hands back the corrections made too
+
+-- the contract: the number returned, and the buffer and the lent number before and after the call
+abbrev pub HandedBack : Answered Handed → List ℕ → ℕ → ℤ → List ℕ → ℕ → Type 0
+HandedBack a old held r new made = (r ≡ asResult (measured (bytesOf a))) × (new ≡ lent old (bytesOf a)) × (made ≡ madeAfter held a)
+
+pub handed-as : {a b : Answered Handed} (old : List ℕ) (held : ℕ) → a ≡ b → {r : ℤ} {new : List ℕ} {made : ℕ} → HandedBack a old held r new made
+    → HandedBack b old held r new made
+handed-as old held same {r} {new} {made} p = subst (λ (x : Answered Handed). HandedBack x old held r new made) same p
+
+-- a refusal leaves both as they were
+pub handed-refused : {a : Answered Handed} (old : List ℕ) (held : ℕ) {n : ℕ} {r : ℤ} → refused n ≡ a → r ≡ asResult (refused n)
+    → HandedBack a old held r old held
+handed-refused old held e q = handed-as old held e (q, refl, refl)
+
+-- bytes with the corrections made beside them
+pub handed-with : (a : Answered (List ℕ)) (made : ℕ) (old : List ℕ) (held : ℕ) {r : ℤ} {new : List ℕ} {after : ℕ} → Returned a old r new
+    → after ≡ madeAfter held (withMade made a) → HandedBack (withMade made a) old held r new after
+handed-with (answered bytes) made old held p e = (p .0, p .1, e)
+handed-with (refused n) made old held p e = (p .0, p .1, e)
+
+-- where a writer wrote, the corrections made are handed over; where it refused, the lent number stays
+pub made-handed : (a : Answered (List ℕ)) (made held : ℕ) {n : ℕ} → written a ≡ Written′.Bytes n → made ≡ madeAfter held (withMade made a)
+made-handed (answered bytes) made held e = refl
+made-handed (refused m) made held e = let z : _≡_ {A = ℕ} 0 1 = cc in absurd (omega arith)
+
+pub made-held : (a : Answered (List ℕ)) (made held : ℕ) {n : ℕ} → written a ≡ Written′.Refused n → held ≡ madeAfter held (withMade made a)
+made-held (answered bytes) made held e = let z : _≡_ {A = ℕ} 0 1 = cc in absurd (omega arith)
+made-held (refused m) made held e = refl
 
 -- ---- a call that answers
 

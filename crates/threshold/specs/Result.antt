@@ -1,5 +1,5 @@
--- What a call of the C interface returns: one number for its answer or its refusal (document 01, "Who causes which number"). Definitions
--- only. Assumes nothing.
+-- What a call of the C interface returns: one number for its answer or its refusal (document 01, "Who causes which number"); and what it
+-- hands back beside it. Definitions only. Assumes nothing.
 use mathlib.Core.Bool.{Bool, true, false}
 use mathlib.Core.List.{List, [], _∷_}
 use Prim.Native.Nat.{ℕ}
@@ -39,6 +39,32 @@ measured a = andThen a (λ bytes. answered (length bytes))
 abbrev pub fitted : ℕ → List ℕ → Answered (List ℕ)
 fitted room bytes = checked (tooShort room bytes ∷ []) (answered bytes)
 
+-- ---- what decide and carry-on hand back
+
+-- the bytes of what the job has come to, "with the corrections made in this call" (document 01, "The stepping machine")
+pub record Handed : Type 0 where
+  pub bytes : List ℕ
+  pub made : ℕ
+
+-- bytes to write, with the corrections made
+abbrev pub withMade : ℕ → Answered (List ℕ) → Answered Handed
+withMade made a = andThen a (λ bytes. answered (record { bytes = bytes; made = made }))
+
+-- the bytes alone
+abbrev pub bytesOf : Answered Handed → Answered (List ℕ)
+bytesOf a = andThen a (λ h. answered (h .bytes))
+
+-- the lent number after the call: the corrections made; a refused call keeps it
+abbrev pub madeAfter : ℕ → Answered Handed → ℕ
+madeAfter held (answered h) = h .made
+madeAfter held (refused n) = held
+
+-- ---- a kind that the call does not take
+
+-- the number for a record that is whole and right, but of a kind that the call does not take: no document has it
+abbrev pub otherKind : ℕ
+otherKind = 100
+
 -- ---- the code's enums
 
 -- yes, no or the number of a refusal
@@ -47,10 +73,10 @@ answerOf Answer′.Yes = answered 1
 answerOf Answer′.No = answered 0
 answerOf (Answer′.Refused n) = refused n
 
--- the number for what a call does not take: reading's, or 5 for another kind
+-- the number for what a call does not take: reading's, or that of another kind
 abbrev pub numberFor : Kind → ℕ
-numberFor Kind′.Table = 5
-numberFor Kind′.Gate = 5
-numberFor Kind′.Witness = 5
-numberFor Kind′.Job = 5
+numberFor Kind′.Table = otherKind
+numberFor Kind′.Gate = otherKind
+numberFor Kind′.Witness = otherKind
+numberFor Kind′.Job = otherKind
 numberFor (Kind′.Refused n) = n

@@ -13,7 +13,7 @@ ghost use Rattle.threshold.specs.Result.{asResult};
 ghost use Rattle.threshold.specs.Interface.{check, kind, valueOn};
 
 // Returns 1 if the gate of a kind 2 record realises its table, or the witness of a kind 3 record balances, and 0 if not. Refusals: 1 to 9
-// as the record is read, 5 for another kind.
+// as the record is read, 100 for another kind.
 #[no_mangle]
 pub extern "C" fn threshold_check(bytes: &[u8]) -> i64
     ensures { λ r. ⌜ r ≡ asResult (check (now (bytes .entry))) ⌝ }
@@ -43,7 +43,7 @@ pub extern "C" fn threshold_kind(bytes: &[u8]) -> i64
     }
 }
 
-// Returns the value of a kind 1 record's table on a row, or of a kind 2 record's gate: 0 or 1. Refusals: 1 to 9 as the record is read, 5
+// Returns the value of a kind 1 record's table on a row, or of a kind 2 record's gate: 0 or 1. Refusals: 1 to 9 as the record is read, 100
 // for another kind, 14.
 #[no_mangle]
 pub extern "C" fn threshold_value(bytes: &[u8], row: u32) -> i64

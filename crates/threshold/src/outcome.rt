@@ -14,7 +14,7 @@ ghost use lib.ListN.{length};
 ghost use Rattle.cell.specs.Refusal.{NoneBroken};
 ghost use Rattle.job.specs.Calls.{jobRules, gateOf, witnessOf};
 ghost use Rattle.records.specs.Calls.{written, lent};
-ghost use Rattle.threshold.specs.Result.{asResult, measured};
+ghost use Rattle.threshold.specs.Result.{asResult, measured, withMade, bytesOf, madeAfter};
 ghost use Rattle.threshold.specs.Interface.{outcomeWritten};
 
 // Returns the gate of a job: weights ai, and T = b.
@@ -53,14 +53,19 @@ fn write_outcome(job: Job, out: &mut [u8]) -> Written
     }
 }
 
-// Writes what a job has come to. Returns the length, or the refusal: 12.
-pub fn put_outcome(job: Job, out: &mut [u8]) -> i64
+// Writes what a job has come to, and sets `made` to the corrections that a call has made. Returns the length, or the refusal: 12.
+pub fn put_outcome(job: Job, corrections: u32, out: &mut [u8], made: &mut u32) -> i64
     requires { ⌜ NoneBroken (jobRules job []) ⌝ }
-    ensures { λ r. ⌜ (r ≡ asResult (measured (outcomeWritten (length (now (out .entry))) job))) × (now (out .exit) ≡ lent (now (out .entry)) (outcomeWritten (length (now (out .entry))) job)) ⌝ }
+    ensures { λ r. ⌜ (r ≡ asResult (measured (bytesOf (withMade corrections (outcomeWritten (length (now (out .entry))) job)))))
+        × (now (out .exit) ≡ lent (now (out .entry)) (bytesOf (withMade corrections (outcomeWritten (length (now (out .entry))) job))))
+        × (now (made .exit) ≡ madeAfter (now (made .entry)) (withMade corrections (outcomeWritten (length (now (out .entry))) job))) ⌝ }
 {
     let answer = write_outcome(job, out);
     match answer {
-        Written::Bytes(length) => length as i64,
+        Written::Bytes(length) => {
+            *made = corrections;
+            length as i64
+        }
         Written::Refused(number) => refusal(number),
     }
 }

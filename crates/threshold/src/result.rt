@@ -5,6 +5,9 @@ ghost use mathlib.Core.Path.{_≡_};
 ghost use Rattle.cell.specs.Refusal.{refused};
 ghost use Rattle.threshold.specs.Result.{asResult, answerOf, numberFor};
 
+// The number of a record that is whole and right, but of a kind that the call does not take. No document has it.
+const OTHER_KIND: u8 = 100;
+
 // Returns the number of a refusal, negated.
 pub fn refusal(number: u8) -> i64
     ensures { λ r. ⌜ r ≡ asResult (refused number) ⌝ }
@@ -23,12 +26,12 @@ pub fn yes_or_no(answer: Answer) -> i64
     }
 }
 
-// Returns the refusal of a record that a call does not take: what reading gave, or 5 for its kind.
+// Returns the refusal of a record that a call does not take: what reading gave, or the number of another kind.
 pub fn not_taken(kind: Kind) -> i64
     ensures { λ r. ⌜ r ≡ asResult (refused (numberFor kind)) ⌝ }
 {
     if let Kind::Refused(number) = kind {
         return refusal(number);
     }
-    refusal(5)
+    refusal(OTHER_KIND)
 }

@@ -1,9 +1,7 @@
-// The calls on a table: it is decided, and the kinds and Chow's parameters of its inputs are told.
+// The calls on a table's inputs: their kinds, and Chow's parameters.
 use crate::inputs::put_chow;
 use crate::inputs::put_kinds;
-use crate::outcome::put_outcome;
 use crate::result::not_taken;
-use job::job::Job;
 use records::read::Kind;
 use records::reader::read;
 use table::chow::all_chow;
@@ -14,26 +12,14 @@ ghost use mathlib.Core.List.{[]};
 ghost use lib.ListN.{length};
 ghost use Rattle.cell.specs.Refusal.{NoneBroken};
 ghost use Rattle.cell.specs.Calls.{tableRules};
-ghost use Rattle.job.specs.Machine.{run, fresh};
-ghost use Rattle.job.specs.Calls.{callBudget};
 ghost use Rattle.records.specs.Calls.{lent};
 ghost use Rattle.threshold.specs.Result.{asResult, measured, andThen};
-ghost use Rattle.threshold.specs.Interface.{tableRead, askedOf, decide, kinds, chow};
+ghost use Rattle.threshold.specs.Interface.{tableRead, askedOf, kinds, chow};
 
-// What is asked of a table.
+// What is asked of a table's inputs.
 enum Asked {
-    Outcome,
     Kinds,
     Chow,
-}
-
-// Returns the job of a table after one carry-on of 100,000.
-fn decided_job(table: Table) -> Job
-    requires { ⌜ NoneBroken (tableRules table []) ⌝ }
-    ensures { λ r. ⌜ r ≡ run callBudget (fresh table) ⌝ }
-{
-    let decided = Job::decided(table);
-    decided.job
 }
 
 // Writes what is asked of a table. Returns the length, or the refusal: 12.
@@ -42,13 +28,12 @@ fn put_asked(asked: Asked, table: Table, out: &mut [u8]) -> i64
     ensures { λ r. ⌜ (r ≡ asResult (measured (askedOf asked (length (now (out .entry))) table))) × (now (out .exit) ≡ lent (now (out .entry)) (askedOf asked (length (now (out .entry))) table)) ⌝ }
 {
     match asked {
-        Asked::Outcome => put_outcome(decided_job(table), out),
         Asked::Kinds => put_kinds(all_kinds(table), out),
         Asked::Chow => put_chow(all_chow(table), out),
     }
 }
 
-// Writes what is asked of the table of a kind 1 record. Returns the length. Refusals: 1 to 9 as the record is read, 5 for another kind, 12.
+// Writes what is asked of the table of a kind 1 record. Returns the length. Refusals: 1 to 9 as the record is read, 100 for another kind, 12.
 fn on_table(asked: Asked, bytes: &[u8], out: &mut [u8]) -> i64
     ensures { λ r. ⌜ (r ≡ asResult (measured (andThen (tableRead (now (bytes .entry))) (askedOf asked (length (now (out .entry))))))) × (now (out .exit) ≡ lent (now (out .entry)) (andThen (tableRead (now (bytes .entry))) (askedOf asked (length (now (out .entry)))))) ⌝ }
 {
@@ -61,17 +46,8 @@ fn on_table(asked: Asked, bytes: &[u8], out: &mut [u8]) -> i64
     put_asked(asked, table, out)
 }
 
-// Decides the table of a kind 1 record: writes its gate (kind 2), its witness (kind 3), or the job that is open after 100,000 corrections
-// (kind 4). Returns the length. Refusals: 1 to 9 as the record is read, 5 for another kind, 12.
-#[no_mangle]
-pub extern "C" fn threshold_decide(bytes: &[u8], out: &mut [u8]) -> i64
-    ensures { λ r. ⌜ (r ≡ asResult (measured (decide (now (bytes .entry)) (length (now (out .entry)))))) × (now (out .exit) ≡ lent (now (out .entry)) (decide (now (bytes .entry)) (length (now (out .entry))))) ⌝ }
-{
-    on_table(Asked::Outcome, bytes, out)
-}
-
 // Writes the kind of each input of a kind 1 record's table, a byte each: 0 idle, 1 rising, 2 falling, 3 binate; past n idle. Returns 8.
-// Refusals: 1 to 9 as the record is read, 5 for another kind, 12.
+// Refusals: 1 to 9 as the record is read, 100 for another kind, 12.
 #[no_mangle]
 pub extern "C" fn threshold_kinds(bytes: &[u8], out: &mut [u8]) -> i64
     ensures { λ r. ⌜ (r ≡ asResult (measured (kinds (now (bytes .entry)) (length (now (out .entry)))))) × (now (out .exit) ≡ lent (now (out .entry)) (kinds (now (bytes .entry)) (length (now (out .entry))))) ⌝ }
@@ -80,7 +56,7 @@ pub extern "C" fn threshold_kinds(bytes: &[u8], out: &mut [u8]) -> i64
 }
 
 // Writes Chow's parameter q of each input of a kind 1 record's table as a signed number of two bytes, low byte first; past n 0. Returns 16.
-// Refusals: 1 to 9 as the record is read, 5 for another kind, 12.
+// Refusals: 1 to 9 as the record is read, 100 for another kind, 12.
 #[no_mangle]
 pub extern "C" fn threshold_chow(bytes: &[u8], out: &mut [u8]) -> i64
     ensures { λ r. ⌜ (r ≡ asResult (measured (chow (now (bytes .entry)) (length (now (out .entry)))))) × (now (out .exit) ≡ lent (now (out .entry)) (chow (now (bytes .entry)) (length (now (out .entry))))) ⌝ }

@@ -49,14 +49,14 @@ fn holds(verdict: &Verdict) -> bool {
 }
 
 fn time_of_deciding(family: Family, n: usize) -> f64 {
-    best(&tables(family, n, 2_000), Table::decide)
+    best(&tables(family, n, 2_000), |table| table.decide().verdict)
 }
 
 fn time_of_budgets(budget: u32) -> f64 {
     best(&tables(Family::Threshold, 8, 200), |table| {
         let mut verdict = Verdict::Open(SavedJob::fresh(table).expect("no input of a gate is binate"));
         while let Verdict::Open(job) = verdict {
-            verdict = job.carry_on(budget).expect("a gate is found below the cap");
+            verdict = job.carry_on(budget).expect("a gate is found below the cap").verdict;
         }
         verdict
     })

@@ -1,4 +1,4 @@
-//! Compares the proved library with the reference: what each call says, and each byte of the lent buffer.
+//! Compares the proved library with the reference: what each call says, each byte of the lent buffer, and the lent number of corrections.
 
 pub mod compare;
 pub mod damage;

@@ -5,6 +5,7 @@ use crate::compare::{Call, Comparison, Difference, Outcome};
 use crate::random::Random;
 use crate::records::{before_looping_at_a_power, near_cap, table_of, untouched};
 use crate::tables::{samples, table, Family};
+use reference::calls::carried;
 use reference::job::{Job, Stage};
 use reference::record::Record;
 use reference::refusal::Refusal;
@@ -74,21 +75,21 @@ fn any_budget(random: &mut Random, left: i64, most: usize) -> u32 {
 
 /// Compares one carry-on of the record with the machine's. If it is accepted, both go on from what it gave.
 fn carry_on(comparison: &mut Comparison, machine: &mut Job, record: &mut Vec<u8>, budget: u32) -> Result<(), Difference> {
-    let mut carried = machine.clone();
+    let mut next = machine.clone();
     let answer = match machine.stage {
-        Stage::Open => carried.carry_on(budget).map(|_| carried.shown().bytes()),
-        _ => Err(Refusal::UnknownKind),
+        Stage::Open => carried(&mut next, budget, ROOM),
+        _ => Err(Refusal::OtherKind),
     };
-    let needed = answer.as_ref().map_or(0, Vec::len);
+    let needed = answer.as_ref().map_or(0, |handed| handed.bytes.len());
     let any = comparison.random.below(ROOM);
     let room = comparison.random.choose(&[any, needed.saturating_sub(1), needed, needed + 1, ROOM]);
-    let answer = answer.and_then(|bytes| if bytes.len() <= room { Ok(bytes) } else { Err(Refusal::BufferTooShort) });
-    let lent = comparison.random.bytes(room);
-    let expected = Outcome::writing(answer, &lent);
+    let answer = answer.and_then(|handed| if handed.bytes.len() <= room { Ok(handed) } else { Err(Refusal::BufferTooShort) });
+    let lent = comparison.lent(room);
+    let expected = Outcome::handing(answer, &lent);
     let outcome = comparison.compare_with(Call::CarryOn(budget), record, lent, expected)?;
     if let Some(written) = outcome.written() {
         *record = written.to_vec();
-        *machine = carried;
+        *machine = next;
     }
     Ok(())
 }

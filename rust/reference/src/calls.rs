@@ -1,4 +1,4 @@
-//! The seven calls of the C interface on records. Each refuses by what reading gives, then by 5 for a kind that it does not
+//! The seven calls of the C interface on records. Each refuses by what reading gives, then by 100 for a kind that it does not
 //! take, then by its own numbers, rising. A call that writes is given the room of the lent buffer and gives the bytes written.
 
 use crate::job::Job;
@@ -6,10 +6,17 @@ use crate::record::Record;
 use crate::refusal::{demand, Refusal};
 use crate::table::{Kind, Table};
 
+/// What a job is handed back as: the record of what it shows, and the corrections made in the call.
+#[derive(Clone, Debug, PartialEq, Eq)]
+pub struct HandedBack {
+    pub bytes: Vec<u8>,
+    pub made: u32,
+}
+
 fn table_of(record: &[u8]) -> Result<Table, Refusal> {
     match Record::read(record)? {
         Record::Table(table) => Ok(table),
-        _ => Err(Refusal::UnknownKind),
+        _ => Err(Refusal::OtherKind),
     }
 }
 
@@ -18,18 +25,21 @@ fn fitting(bytes: Vec<u8>, room: usize) -> Result<Vec<u8>, Refusal> {
     Ok(bytes)
 }
 
-/// The fresh job of a table, carried on by 100,000: the record of what it shows.
-pub fn decide(record: &[u8], room: usize) -> Result<Vec<u8>, Refusal> {
-    let mut job = Job::fresh(table_of(record)?);
-    job.carry_on(Job::CALL_BUDGET as u32)?;
-    fitting(job.shown().bytes(), room)
+/// The job carried on by the budget.
+pub fn carried(job: &mut Job, budget: u32, room: usize) -> Result<HandedBack, Refusal> {
+    let made = job.carry_on(budget)? as u32;
+    Ok(HandedBack { bytes: fitting(job.shown().bytes(), room)?, made })
 }
 
-/// A saved job, carried on by the budget: the record of what it shows.
-pub fn carry_on(record: &[u8], budget: u32, room: usize) -> Result<Vec<u8>, Refusal> {
-    let Record::Job(mut job) = Record::read(record)? else { return Err(Refusal::UnknownKind) };
-    job.carry_on(budget)?;
-    fitting(job.shown().bytes(), room)
+/// The fresh job of a table, carried on by 100,000.
+pub fn decide(record: &[u8], room: usize) -> Result<HandedBack, Refusal> {
+    carried(&mut Job::fresh(table_of(record)?), Job::CALL_BUDGET as u32, room)
+}
+
+/// A saved job, carried on by the budget.
+pub fn carry_on(record: &[u8], budget: u32, room: usize) -> Result<HandedBack, Refusal> {
+    let Record::Job(mut job) = Record::read(record)? else { return Err(Refusal::OtherKind) };
+    carried(&mut job, budget, room)
 }
 
 /// Whether the gate realises the table, or the witness balances.
@@ -37,7 +47,7 @@ pub fn check(record: &[u8]) -> Result<bool, Refusal> {
     match Record::read(record)? {
         Record::Gate(table, gate) => Ok(gate.realises(&table)),
         Record::Witness(table, witness) => Ok(witness.balances(&table)),
-        _ => Err(Refusal::UnknownKind),
+        _ => Err(Refusal::OtherKind),
     }
 }
 
@@ -66,7 +76,7 @@ pub fn value(record: &[u8], row: u32) -> Result<bool, Refusal> {
     let (table, gate) = match Record::read(record)? {
         Record::Table(table) => (table, None),
         Record::Gate(table, gate) => (table, Some(gate)),
-        _ => return Err(Refusal::UnknownKind),
+        _ => return Err(Refusal::OtherKind),
     };
     demand(table.rows().contains(&row), Refusal::RowPastTable)?;
     Ok(gate.map_or(table.values[row], |gate| gate.value(row)))

@@ -1,6 +1,6 @@
 //! "Who causes which number": the refusals that calls on records can give.
 
-/// A refusal, by document 01's number.
+/// A refusal, by document 01's number; 100 is the C interface's own.
 #[derive(Clone, Copy, Debug, PartialEq, Eq)]
 pub enum Refusal {
     EndsEarly = 1,
@@ -16,6 +16,7 @@ pub enum Refusal {
     Cap = 11,
     BufferTooShort = 12,
     RowPastTable = 14,
+    OtherKind = 100,
 }
 
 /// Refuses unless the rule is kept.

@@ -1,14 +1,15 @@
 //! The library's functions on slices, as `include/threshold.h` describes them.
 //!
 //! A function with `out` writes its answer to the start of the buffer and gives the length. It changes no byte past that, and none at
-//! all where it refuses. [`ROOM`](crate::ROOM) bytes are enough for every answer.
+//! all where it refuses. [`ROOM`](crate::ROOM) bytes are enough for every answer. A function with `made` sets it to the corrections made in
+//! the call, and keeps it where it refuses.
 
 use crate::Refusal;
 
 mod c {
     extern "C" {
-        pub fn threshold_decide(record: *const u8, length: usize, out: *mut u8, room: usize) -> i64;
-        pub fn threshold_carry_on(record: *const u8, length: usize, budget: u32, out: *mut u8, room: usize) -> i64;
+        pub fn threshold_decide(record: *const u8, length: usize, out: *mut u8, room: usize, made: *mut u32) -> i64;
+        pub fn threshold_carry_on(record: *const u8, length: usize, budget: u32, out: *mut u8, room: usize, made: *mut u32) -> i64;
         pub fn threshold_check(record: *const u8, length: usize) -> i64;
         pub fn threshold_kind(record: *const u8, length: usize) -> i64;
         pub fn threshold_kinds(record: *const u8, length: usize, out: *mut u8, room: usize) -> i64;
@@ -34,17 +35,17 @@ fn truth(code: i64) -> Result<bool, Refusal> {
     })
 }
 
-// Safety, of every call below: a slice's pointer is not null and is valid for its length, a shared slice is written by no one and a
-// mutable one overlaps no other while they are lent, and the library asks nothing else.
+// Safety, of every call below: a slice's pointer is not null and is valid for its length, that of a number is not null and valid, what
+// is shared is written by no one and what is mutable overlaps nothing else while they are lent, and the library asks nothing else.
 
 /// Decides a table (kind 1) within 100,000 corrections: writes a record of kind 2, 3 or 4.
-pub fn decide(record: &[u8], out: &mut [u8]) -> Result<usize, Refusal> {
-    answer(unsafe { c::threshold_decide(record.as_ptr(), record.len(), out.as_mut_ptr(), out.len()) })
+pub fn decide(record: &[u8], out: &mut [u8], made: &mut u32) -> Result<usize, Refusal> {
+    answer(unsafe { c::threshold_decide(record.as_ptr(), record.len(), out.as_mut_ptr(), out.len(), made) })
 }
 
 /// Carries an open job (kind 4) on by at most `budget` corrections: writes a record of kind 2, 3 or 4.
-pub fn carry_on(record: &[u8], budget: u32, out: &mut [u8]) -> Result<usize, Refusal> {
-    answer(unsafe { c::threshold_carry_on(record.as_ptr(), record.len(), budget, out.as_mut_ptr(), out.len()) })
+pub fn carry_on(record: &[u8], budget: u32, out: &mut [u8], made: &mut u32) -> Result<usize, Refusal> {
+    answer(unsafe { c::threshold_carry_on(record.as_ptr(), record.len(), budget, out.as_mut_ptr(), out.len(), made) })
 }
 
 /// Whether the gate (kind 2) realises its table, or the witness (kind 3) balances.

@@ -1,4 +1,4 @@
-//! Verdicts, and the job of a table that is still open.
+//! Verdicts with the corrections made, and the job of a table that is still open.
 
 use crate::record::{over_record, with_table, Record};
 use crate::{calls, Gate, Refusal, Table, Witness};
@@ -12,6 +12,15 @@ pub enum Verdict {
     Witness(Witness),
     /// Given up so far: the job can be carried on.
     Open(SavedJob),
+}
+
+/// What a call that makes corrections gives.
+#[derive(Clone, Debug, PartialEq, Eq, Hash)]
+pub struct Outcome {
+    /// What is known of the table after the call.
+    pub verdict: Verdict,
+    /// The corrections made in this call.
+    pub made: u32,
 }
 
 /// The open job of a table, as it is stored between calls.
@@ -32,8 +41,8 @@ impl SavedJob {
     }
 
     /// Carries the job on by at most `budget` corrections. The job itself stays as it is, so a refused call loses nothing.
-    pub fn carry_on(&self, budget: u32) -> Result<Verdict, Refusal> {
-        Record::written_by(|out| calls::carry_on(self.record(), budget, out)).map(Verdict::of)
+    pub fn carry_on(&self, budget: u32) -> Result<Outcome, Refusal> {
+        Outcome::of(|out, made| calls::carry_on(self.record(), budget, out, made))
     }
 
     /// The corrections made so far, K.
@@ -42,9 +51,18 @@ impl SavedJob {
     }
 }
 
+impl Outcome {
+    /// What the call writes and makes.
+    pub(crate) fn of(call: impl FnOnce(&mut [u8], &mut u32) -> Result<usize, Refusal>) -> Result<Outcome, Refusal> {
+        let mut made = 0;
+        let record = Record::written_by(|out| call(out, &mut made))?;
+        Ok(Outcome { verdict: Verdict::of(record), made })
+    }
+}
+
 impl Verdict {
     /// The verdict that the library has written: kind 2, 3 or 4.
-    pub(crate) fn of(record: Record) -> Verdict {
+    fn of(record: Record) -> Verdict {
         match record.kind() {
             2 => Verdict::Gate(Gate(record)),
             3 => Verdict::Witness(Witness(record)),

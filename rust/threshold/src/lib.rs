@@ -1,15 +1,18 @@
 //! Decides whether one threshold gate can carry a Boolean function of up to eight inputs, by the proved library `libthreshold.a`.
 //!
 //! A [`Table`] is decided by [`Table::decide`]. The [`Verdict`] needs no trust: a [`Gate`] that has the table's value on every row; a
-//! balanced [`Witness`], after which no gate exists; or a [`SavedJob`], given up so far, to be carried on.
+//! balanced [`Witness`], after which no gate exists; or a [`SavedJob`], given up so far, to be carried on. It comes with the corrections
+//! made, as an [`Outcome`].
 //!
 //! ```
 //! use threshold::{Table, Verdict};
 //!
 //! let both = Table::from_fn(2, |row| row == 3)?;
-//! let Verdict::Gate(gate) = both.decide() else { panic!("no gate") };
+//! let outcome = both.decide();
+//! let Verdict::Gate(gate) = outcome.verdict else { panic!("no gate") };
 //! assert_eq!((gate.weights(), gate.threshold()), (vec![2, 3], 4));
 //! assert!(gate.realises());
+//! assert_eq!(outcome.made, 18);
 //! # Ok::<(), threshold::Refusal>(())
 //! ```
 //!
@@ -30,7 +33,7 @@ mod witness;
 mod tests;
 
 pub use gate::Gate;
-pub use job::{SavedJob, Verdict};
+pub use job::{Outcome, SavedJob, Verdict};
 pub use refusal::Refusal;
 pub use table::{InputKind, Table};
 pub use witness::Witness;

@@ -13,7 +13,7 @@ impl Record {
         if calls::kind(bytes)? == kind {
             Ok(Record(bytes.to_vec()))
         } else {
-            Err(Refusal::Kind)
+            Err(Refusal::OtherKind)
         }
     }
 

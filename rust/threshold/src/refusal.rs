@@ -1,9 +1,9 @@
-//! Refusals by document 01's numbers.
+//! Refusals by their numbers.
 
 use std::error::Error;
 use std::fmt;
 
-/// Why a call was refused: a number of document 01, "Who causes which number".
+/// Why a call was refused: a number of document 01, "Who causes which number", or 100, which is the C interface's own.
 #[derive(Clone, Copy, Debug, PartialEq, Eq, Hash)]
 #[repr(u8)]
 pub enum Refusal {
@@ -15,7 +15,7 @@ pub enum Refusal {
     SpareBit = 3,
     /// A number is not in shortest form, or has over three groups.
     Number = 4,
-    /// The kind is unknown, or the call does not take it.
+    /// The kind byte is not 1 to 4.
     Kind = 5,
     /// Bytes are left after the record.
     BytesLeft = 6,
@@ -33,15 +33,17 @@ pub enum Refusal {
     Room = 12,
     /// The row is at or above 2^n.
     Row = 14,
+    /// The record is whole and right, of a kind that the call does not take.
+    OtherKind = 100,
 }
 
 impl Refusal {
-    const ALL: [Refusal; 13] = {
+    const ALL: [Refusal; 14] = {
         use Refusal::*;
-        [EndsEarly, Inputs, SpareBit, Number, Kind, BytesLeft, Gate, RowList, Unsound, Budget, Cap, Room, Row]
+        [EndsEarly, Inputs, SpareBit, Number, Kind, BytesLeft, Gate, RowList, Unsound, Budget, Cap, Room, Row, OtherKind]
     };
 
-    /// Document 01's number.
+    /// The number of the refusal.
     pub fn number(self) -> u8 {
         self as u8
     }
@@ -59,7 +61,7 @@ impl fmt::Display for Refusal {
             Refusal::Inputs => "more than eight inputs, or a gate's inputs are not the table's",
             Refusal::SpareBit => "a spare bit of the table is set",
             Refusal::Number => "a number is not in shortest form",
-            Refusal::Kind => "a kind of record that the call does not take",
+            Refusal::Kind => "the kind byte is not 1 to 4",
             Refusal::BytesLeft => "bytes are left after the record",
             Refusal::Gate => "a weight or the threshold is out of range",
             Refusal::RowList => "the row list breaks its rules",
@@ -68,6 +70,7 @@ impl fmt::Display for Refusal {
             Refusal::Cap => "the budget passes the cap of 1,000,000 corrections",
             Refusal::Room => "the buffer is too short",
             Refusal::Row => "the row is past the table",
+            Refusal::OtherKind => "a kind of record that the call does not take",
         };
         write!(f, "refused by {}: {reason}", self.number())
     }

@@ -2,7 +2,7 @@
 
 use crate::fields::put_number;
 use crate::record::{over_record, Record};
-use crate::{calls, Refusal, Verdict};
+use crate::{calls, Outcome, Refusal};
 
 /// A truth table of up to eight inputs. In row r, input i (1 to n) is true when bit i - 1 of r is 1.
 #[derive(Clone, Debug, PartialEq, Eq, Hash)]
@@ -67,7 +67,7 @@ impl Table {
     }
 
     /// Decides the table within 100,000 corrections.
-    pub fn decide(&self) -> Verdict {
-        Verdict::of(Record::written_by(|out| calls::decide(self.record(), out)).expect("a table is decided"))
+    pub fn decide(&self) -> Outcome {
+        Outcome::of(|out, made| calls::decide(self.record(), out, made)).expect("a table is decided")
     }
 }

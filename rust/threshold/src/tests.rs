@@ -1,6 +1,6 @@
 //! The wrapper on the cases of document 01.
 
-use crate::{Gate, InputKind, Refusal, SavedJob, Table, Verdict, Witness, CALL_BUDGET};
+use crate::{calls, Gate, InputKind, Outcome, Refusal, SavedJob, Table, Verdict, Witness, CALL_BUDGET, ROOM};
 
 /// A table that is open after 100,000 corrections and has a witness after 131,076.
 const SLOW: [u8; 32] = [
@@ -11,7 +11,7 @@ const SLOW: [u8; 32] = [
 #[test]
 fn a_gate_is_found() {
     let table = Table::new(1, &[0x02]).unwrap();
-    let Verdict::Gate(gate) = table.decide() else { panic!() };
+    let Outcome { verdict: Verdict::Gate(gate), made: 5 } = table.decide() else { panic!() };
     assert_eq!((gate.weights(), gate.threshold(), gate.table()), (vec![2], 1, table));
     assert!(gate.realises());
     assert_eq!([0, 1, 2].map(|row| gate.value(row)), [Ok(false), Ok(true), Err(Refusal::Row)]);
@@ -21,7 +21,7 @@ fn a_gate_is_found() {
 fn a_witness_is_found() {
     let table = Table::from_fn(2, |row| row == 1 || row == 2).unwrap();
     assert_eq!(table.bytes(), [0x06]);
-    let Verdict::Witness(witness) = table.decide() else { panic!() };
+    let Outcome { verdict: Verdict::Witness(witness), made: 0 } = table.decide() else { panic!() };
     assert_eq!((witness.rows(), witness.table()), (vec![(0, 1), (1, 1), (2, 1), (3, 1)], table));
     assert!(witness.balances());
 }
@@ -29,17 +29,17 @@ fn a_witness_is_found() {
 #[test]
 fn an_open_job_is_stored_and_carried_on() {
     let table = Table::new(8, &SLOW).unwrap();
-    let Verdict::Open(job) = table.decide() else { panic!() };
+    let Outcome { verdict: Verdict::Open(job), made: 100_000 } = table.decide() else { panic!() };
     assert_eq!((job.corrections(), job.table()), (100_000, table));
     let read = SavedJob::from_record(job.record()).unwrap();
     assert_eq!(read, job);
     assert_eq!(read.carry_on(0), Err(Refusal::Budget));
     assert_eq!(read.carry_on(CALL_BUDGET + 1), Err(Refusal::Budget));
-    let Ok(Verdict::Open(next)) = read.carry_on(31_075) else { panic!() };
+    let Ok(Outcome { verdict: Verdict::Open(next), made: 31_075 }) = read.carry_on(31_075) else { panic!() };
     assert_eq!(next.corrections(), 131_075);
-    let Ok(Verdict::Witness(witness)) = next.carry_on(1) else { panic!() };
+    let Ok(Outcome { verdict: Verdict::Witness(witness), made: 1 }) = next.carry_on(1) else { panic!() };
     assert!(witness.balances());
-    assert_eq!(job.carry_on(CALL_BUDGET), Ok(Verdict::Witness(witness)));
+    assert_eq!(job.carry_on(CALL_BUDGET), Ok(Outcome { verdict: Verdict::Witness(witness), made: 31_076 }));
 }
 
 #[test]
@@ -49,11 +49,25 @@ fn a_fresh_job_goes_by_any_budgets() {
     let mut calls = 0;
     while let Verdict::Open(job) = verdict {
         assert_eq!(job.corrections(), calls);
-        verdict = job.carry_on(1).unwrap();
+        let outcome = job.carry_on(1).unwrap();
+        assert_eq!(outcome.made, 1);
+        verdict = outcome.verdict;
         calls += 1;
     }
-    assert_eq!((verdict, calls), (table.decide(), 18));
+    assert_eq!((Outcome { verdict, made: calls }, calls), (table.decide(), 18));
     assert_eq!(SavedJob::fresh(&Table::new(2, &[0x06]).unwrap()), None);
+}
+
+#[test]
+fn a_refused_call_changes_nothing() {
+    let (table, job) = ([1, 2, 0x08], SavedJob::fresh(&Table::new(2, &[0x08]).unwrap()).unwrap());
+    let mut lent = [7; ROOM];
+    let mut made = 7;
+    assert_eq!(calls::decide(&table, &mut lent[..5], &mut made), Err(Refusal::Room));
+    assert_eq!(calls::decide(job.record(), &mut lent, &mut made), Err(Refusal::OtherKind));
+    assert_eq!(calls::carry_on(&table, 1, &mut lent, &mut made), Err(Refusal::OtherKind));
+    assert_eq!(calls::carry_on(job.record(), 0, &mut lent, &mut made), Err(Refusal::Budget));
+    assert_eq!((lent, made), ([7; ROOM], 7));
 }
 
 #[test]
@@ -91,13 +105,13 @@ fn tables_are_refused_by_number() {
     assert_eq!(Table::new(2, &[0, 0]), Err(Refusal::BytesLeft));
     assert_eq!(Table::from_record(&[0]), Err(Refusal::Kind));
     assert_eq!(Table::from_record(&[1, 0x80, 0x00]), Err(Refusal::Number));
-    assert_eq!(SavedJob::from_record(&[1, 0, 0]), Err(Refusal::Kind));
+    assert_eq!(SavedJob::from_record(&[1, 0, 0]), Err(Refusal::OtherKind));
     assert_eq!(SavedJob::from_record(&[4, 0, 0, 1, 0, 0, 1, 0, 1]), Err(Refusal::Unsound));
 }
 
 #[test]
 fn refusals_have_their_numbers() {
     let known = (0..=255).filter_map(Refusal::from_number).map(Refusal::number);
-    assert!(known.eq((1..=12).chain([14])));
+    assert!(known.eq((1..=12).chain([14, 100])));
     assert_eq!(Refusal::Budget.to_string(), "refused by 10: the budget is not within 1 to 100,000");
 }

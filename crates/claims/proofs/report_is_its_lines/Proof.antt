@@ -2,7 +2,7 @@
 use mathlib.Core.Path.{_∙_}
 use Rattle.job.proofs.DecidedLaws.{decided-carried}
 use Rattle.reporting.proofs.DecidedLaws.{decided-is}
-use Rattle.reporting.proofs.ReportLaws.{lines-are-report, ends, too-long}
+use Rattle.batch.proofs.ReportLaws.{lines-are-report, ends, too-long}
 use Rattle.claims.proofs.report_is_its_lines.Statement.{statement}
 use Rattle.claims.proofs.report_is_its_lines.Tie as tie
 

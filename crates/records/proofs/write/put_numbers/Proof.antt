@@ -6,7 +6,7 @@ use lib.ListN.{length, length-append}
 use borrow.Author.Needs.{needs}
 use Rattle.job.specs.declared.job.Job.{Job}
 use Rattle.job.specs.Sound.{Sound}
-use Rattle.job.proofs.SoundTest.{in-range-search}
+use Rattle.job.proofs.SoundLaws.{in-range-search}
 use Rattle.codec.specs.Number.{numberBytes}
 use Rattle.codec.specs.VectorField.{vectorBytes}
 use Rattle.records.proofs.WriteLaws.{Filled, filled-room, filled-on}

@@ -16,7 +16,7 @@ use Rattle.cell.specs.Calls.{tableRules, gateRange}
 use Rattle.cell.proofs.RefusalLaws.{rule-broken, rule-kept}
 use Rattle.cell.proofs.TableChecked.{table-refused, table-passed, table-inputs}
 use Rattle.types.specs.declared.vector.Vector.{Vector}
-use Rattle.job.proofs.SoundTest.{in-range-search}
+use Rattle.job.proofs.SoundLaws.{in-range-search}
 use Rattle.codec.specs.VectorField.{vectorBytes}
 use Rattle.codec.specs.Head.{headBytes}
 use Rattle.records.specs.Record.{Record, ofGate, gateVector, recordBytes}

@@ -8,6 +8,7 @@ use borrow.Author.Needs.{needs}
 use Rattle.reporting.specs.Text.{decimal, spaced, lineFeed}
 use Rattle.reporting.specs.Lines.{meanText, lastLine}
 use Rattle.reporting.proofs.LineWriting.{Left, all-left, next-room, next-left, line-done}
+use Rattle.reporting.proofs.RoomLaws.{last-room}
 use Rattle.reporting.proofs.line.last_line.Statement.{statement}
 use Rattle.reporting.proofs.line.last_line.Tie as tie
 
@@ -49,7 +50,7 @@ LineLeft s out here rest = Left (now (s .args .out)) 0 (lastLine (s .args .tally
 
 at-records : (s : tie.Start) → LineLeft s (now (s .args .out)) 0 (records s ++ from-gates s)
 unfolding lastLine
-at-records s = all-left (now (s .args .out)) 0 (lastLine (s .args .tally)) (omega (arith, s .pre .2))
+at-records s = all-left (now (s .args .out)) 0 (lastLine (s .args .tally)) (omega (arith, s .pre .1, last-room (s .args .tally)))
 
 put-decimal-requires : tie.Need-put-decimal-requires
 put-decimal-requires c κs = let s = c .before .before in next-room (records s) (from-gates s) (at-records s)
@@ -108,7 +109,7 @@ put-mean-requires : tie.Need-put-mean-requires
 put-mean-requires c κs =
     let put = c .before .before .before in
     let s = start-of4 put in
-    (s .pre .0, s .pre .1, next-room (mean s) lineFeed (at-mean put))
+    (s .pre .0 .gates, s .pre .0 .sum, next-room (mean s) lineFeed (at-mean put))
 
 at-end : (c : tie.After-put-mean) → LineLeft (start-of4 (c .before .before .before .before)) (c .put-mean .last .0) (c .put-mean .result) lineFeed
 at-end c =
@@ -119,7 +120,10 @@ put-byte-requires-2 : tie.Need-put-byte-requires-2
 put-byte-requires-2 c κs = at-end (c .before .before .before) .room
 
 returns : tie.Need-returns
-returns c = let end = c .before .before in line-done (at-end (end .before .before .before .before)) (end .put-byte2 .ensures)
+returns c =
+    let end = c .before .before in
+    let put = end .before .before .before .before in
+    line-done (at-end put) (end .put-byte2 .ensures) (last-room (start-of4 (put .before .before .before .before) .args .tally))
 
 same-length : tie.Need-same-length
 same-length c = search needs

@@ -22,13 +22,13 @@ abbrev k-text : tie.Start → List ℕ
 k-text s = spaced (decimal (s .args .k))
 
 abbrev size-text : tie.Start → List ℕ
-size-text s = spaced (signedText (size (s .args .v)))
+size-text s = spaced (signedText (size (s .args .gate)))
 
 abbrev weights : tie.Start → List ℕ
-weights s = weightsText (s .args .v .a) (s .args .n) 0
+weights s = weightsText (s .args .gate .weights) (s .args .gate .n) 0
 
 abbrev threshold : tie.Start → List ℕ
-threshold s = spaced (signedText (s .args .v .b))
+threshold s = spaced (signedText (s .args .gate .threshold))
 
 -- the text from each field on
 abbrev from-weights : tie.Start → List ℕ
@@ -42,11 +42,11 @@ from-k s = k-text s ++ from-size s
 
 -- what is left at each position
 abbrev GateLeft : tie.Start → List ℕ → ℕ → List ℕ → Type 0
-GateLeft s out here rest = Left (now (s .args .out)) (s .args .at) (gateText (s .args .n) (s .args .k) (s .args .v)) out here rest
+GateLeft s out here rest = Left (now (s .args .out)) (s .args .at) (gateText (s .args .k) (s .args .gate)) out here rest
 
 at-letter : (s : tie.Start) → GateLeft s (now (s .args .out)) (s .args .at) (letter ++ from-k s)
 unfolding gateText
-at-letter s = all-left (now (s .args .out)) (s .args .at) (gateText (s .args .n) (s .args .k) (s .args .v)) (s .pre .1)
+at-letter s = all-left (now (s .args .out)) (s .args .at) (gateText (s .args .k) (s .args .gate)) (s .pre .1)
 
 put-letter-requires : tie.Need-put-letter-requires
 put-letter-requires c κs = let s = c .before .before .before in next-room letter (from-k s) (at-letter s)
@@ -72,7 +72,7 @@ size-of-requires : tie.Need-size-of-requires
 size-of-requires c κs = search needs
 
 -- the size that is passed
-size-is : (c : tie.After-size-of) → toZ w64 (ofZ w64 (c .size-of .result)) ≡ size (start-of1 (c .before .before .before .before) .args .v)
+size-is : (c : tie.After-size-of) → toZ w64 (ofZ w64 (c .size-of .result)) ≡ size (start-of1 (c .before .before .before .before) .args .gate)
 size-is c = back w64 {a = c .size-of .result} (c .size-of .ok) ∙ c .size-of .ensures
 
 put-signed-requires : tie.Need-put-signed-requires
@@ -100,7 +100,7 @@ at-threshold c =
     next-left (weights (start-of3 c)) (threshold (start-of3 c)) (at-weights (c .before .before .before .before)) (c .put-weights .ensures)
 
 -- T, which is passed at 64 bits
-threshold-fits : (c : tie.After-struct-told) → SFits w32 (start-of3 (c .before .before .before .before .before) .args .v .b)
+threshold-fits : (c : tie.After-struct-told) → SFits w32 (start-of3 (c .before .before .before .before .before) .args .gate .threshold)
 threshold-fits c = search needs
 
 cast-put-signed : tie.Need-cast-put-signed

@@ -52,10 +52,14 @@ put-number-requires c κs = at-k (c .before .before .before .before) .room
 enum-told-2 : tie.Need-enum-told-2
 enum-told-2 c = search needs
 
+gate-of-requires : tie.Need-gate-of-requires
+gate-of-requires c κs = search needs
+
 put-gate-requires : tie.Need-put-gate-requires
 put-gate-requires c κs =
-    let s = c .before .before .before .before .before .before in
-    (s .pre .0, room s (c .before .enum-told2 .given .1))
+    let told = c .before .before in
+    let s = told .before .before .before .before .before in
+    rw (c .gate-of .ensures) (s .pre .0, room s (told .enum-told2 .given .1))
 
 enum-told-3 : tie.Need-enum-told-3
 enum-told-3 c = search needs
@@ -83,7 +87,9 @@ same-length-2 : tie.Need-same-length-2
 same-length-2 c = search needs
 
 returns-2 : tie.Need-returns-2
-returns-2 c = rw (c .before .before .before .before .enum-told2 .given .1) (c .before .before .put-gate .ensures)
+returns-2 c =
+    let put = c .before .before in
+    rw (put .before .before .before .enum-told2 .given .1) (rw (put .before .gate-of .ensures) at (put .put-gate .ensures))
 
 same-length-3 : tie.Need-same-length-3
 same-length-3 c = search needs
@@ -106,6 +112,7 @@ put-verdict-spec =
     cast-put-number
     put-number-requires
     enum-told-2
+    gate-of-requires
     put-gate-requires
     enum-told-3
     put-witness-requires

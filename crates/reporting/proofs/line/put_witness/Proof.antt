@@ -29,11 +29,11 @@ from-k s = k-text s ++ (height-text s ++ pairs s)
 
 -- what is left at each position
 abbrev WitnessLeft : tie.Start → List ℕ → ℕ → List ℕ → Type 0
-WitnessLeft s out here rest = Left (now (s .args .out)) (s .args .at) (witnessText (s .args .table) (s .args .k) (now (s .args .counts))) out here rest
+WitnessLeft s out here rest = Left (now (s .args .out)) (s .args .at) (witnessText (s .args .k) (s .args .table) (now (s .args .counts))) out here rest
 
 at-letter : (s : tie.Start) → WitnessLeft s (now (s .args .out)) (s .args .at) (letter ++ from-k s)
 unfolding witnessText
-at-letter s = all-left (now (s .args .out)) (s .args .at) (witnessText (s .args .table) (s .args .k) (now (s .args .counts))) (s .pre .1)
+at-letter s = all-left (now (s .args .out)) (s .args .at) (witnessText (s .args .k) (s .args .table) (now (s .args .counts))) (s .pre .1)
 
 put-letter-requires : tie.Need-put-letter-requires
 put-letter-requires c κs = next-room letter (from-k (c .before .before)) (at-letter (c .before .before))

@@ -1,14 +1,33 @@
 -- `line::record_line` meets its contract: the position, n, the verdict and a line feed are written one behind the other. Assumes nothing.
 use mathlib.Core.List.{List, _++_}
-use Prim.Native.Nat.{ℕ}
+use Prim.Native.Nat.{ℕ, _≤_}
 use native.Mathlib.Omega.{arith}
+use lib.ListN.{length, getD}
+use mir.Syntax.{w32}
+use mir.Val.{Fits}
 use denote.Ref.{now}
 use borrow.Author.Needs.{needs}
+use Rattle.numbers.proofs.Widths.{signed-fits-field}
 use Rattle.reporting.specs.Text.{decimal, spaced, lineFeed}
-use Rattle.reporting.specs.Lines.{verdictText, recordLine}
+use Rattle.reporting.specs.Lines.{lineRoom, verdictText, recordLine}
 use Rattle.reporting.proofs.LineWriting.{Left, all-left, next-room, next-left, line-done}
+use Rattle.reporting.proofs.RecordRoom.{Held, record-room}
 use Rattle.reporting.proofs.line.record_line.Statement.{statement}
 use Rattle.reporting.proofs.line.record_line.Tie as tie
+
+-- the numbers of the job fit their types
+held : (s : tie.Start) → Held (s .args .job)
+held s = record {
+  k = search needs;
+  count = λ r. let f : Fits w32 (getD (s .args .job .counts) r 0) = search needs in omega arith;
+  weights = search needs;
+  weight = λ place. search (needs, signed-fits-field);
+  threshold = search needs;
+}
+
+-- so its line has room
+fits : (s : tie.Start) → length (recordLine (s .args .position) (s .args .job)) ≤ lineRoom
+fits s = record-room (s .args .job) (held s) (s .args .position) (search needs) (s .pre .0)
 
 -- the fields, and the line from n on
 abbrev position-text : tie.Start → List ℕ
@@ -29,7 +48,7 @@ LineLeft s out here rest = Left (now (s .args .out)) 0 (recordLine (s .args .pos
 
 at-position : (s : tie.Start) → LineLeft s (now (s .args .out)) 0 (position-text s ++ from-n s)
 unfolding recordLine
-at-position s = all-left (now (s .args .out)) 0 (recordLine (s .args .position) (s .args .job)) (omega (arith, s .pre .1))
+at-position s = all-left (now (s .args .out)) 0 (recordLine (s .args .position) (s .args .job)) (omega (arith, s .pre .1, fits s))
 
 put-decimal-requires : tie.Need-put-decimal-requires
 put-decimal-requires c κs = next-room (position-text (c .before .before)) (from-n (c .before .before)) (at-position (c .before .before))
@@ -68,7 +87,10 @@ put-byte-requires : tie.Need-put-byte-requires
 put-byte-requires c κs = at-end (c .before .before .before) .room
 
 returns : tie.Need-returns
-returns c = let end = c .before .before in line-done (at-end (end .before .before .before .before)) (end .put-byte .ensures)
+returns c =
+    let end = c .before .before in
+    let put = end .before .before .before .before in
+    line-done (at-end put) (end .put-byte .ensures) (fits (start-of (put .before .before .before .before)))
 
 same-length : tie.Need-same-length
 same-length c = search needs

@@ -7,6 +7,7 @@ use borrow.Author.Needs.{needs}
 use Rattle.reporting.specs.Text.{decimal, spaced, lineFeed}
 use Rattle.reporting.specs.Lines.{refusalLine}
 use Rattle.reporting.proofs.LineWriting.{Left, all-left, next-room, next-left, line-done}
+use Rattle.reporting.proofs.RoomLaws.{refusal-room}
 use Rattle.reporting.proofs.line.refusal_line.Statement.{statement}
 use Rattle.reporting.proofs.line.refusal_line.Tie as tie
 
@@ -29,7 +30,7 @@ LineLeft s out here rest = Left (now (s .args .out)) 0 (refusalLine (s .args .po
 
 at-position : (s : tie.Start) → LineLeft s (now (s .args .out)) 0 (position-text s ++ from-letter s)
 unfolding refusalLine
-at-position s = all-left (now (s .args .out)) 0 (refusalLine (s .args .position) (s .args .number)) (omega (arith, s .pre))
+at-position s = all-left (now (s .args .out)) 0 (refusalLine (s .args .position) (s .args .number)) (omega (arith, s .pre, refusal-room (s .args .position) (s .args .number)))
 
 put-decimal-requires : tie.Need-put-decimal-requires
 put-decimal-requires c κs = let s = c .before .before in next-room (position-text s) (from-letter s) (at-position s)
@@ -62,7 +63,11 @@ put-byte-requires : tie.Need-put-byte-requires
 put-byte-requires c κs = at-end (c .before .before .before) .room
 
 returns : tie.Need-returns
-returns c = let end = c .before .before in line-done (at-end (end .before .before .before .before)) (end .put-byte .ensures)
+returns c =
+    let end = c .before .before in
+    let put = end .before .before .before .before in
+    let a = start-of (put .before .before .before .before) .args in
+    line-done (at-end put) (end .put-byte .ensures) (refusal-room (a .position) (a .number))
 
 same-length : tie.Need-same-length
 same-length c = search needs

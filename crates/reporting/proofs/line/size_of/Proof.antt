@@ -34,10 +34,10 @@ sum-next a place z h f (is, small) = (
 )
 
 abbrev Inv-loop : tie.InvT-loop
-Inv-loop v a sum₀ place₀ sum place = (place ≤ 8) × SumTo a place (toZ w64 sum)
+Inv-loop gate weights sum₀ place₀ sum place = (place ≤ 8) × SumTo weights place (toZ w64 sum)
 
 abbrev μ-loop : tie.MeasureT-loop
-μ-loop v a sum₀ place₀ sum place = 8 - place
+μ-loop gate weights sum₀ place₀ sum place = 8 - place
 
 loop-holds : tie.Need-loop-holds Inv-loop μ-loop
 loop-holds c = (omega arith, (sym (weighted-sum-nil _), omega arith))
@@ -50,17 +50,17 @@ array-copy-out-sum c = search needs
 
 -- the weight that is added
 abbrev weight : tie.After-sum Inv-loop μ-loop → ℤ
-weight c = getD (c .before .before .before .before .args .v .a) (c .before .before .loop .place) (pos 0)
+weight c = getD (c .before .before .before .before .args .gate .weights) (c .before .before .loop .place) (pos 0)
 
 weight-fits : (c : tie.After-sum Inv-loop μ-loop) → SFits w32 (weight c)
 weight-fits c = record { sfits = c .sum .given }
 
 -- the sum with it
 sum-with : (c : tie.After-sum Inv-loop μ-loop)
-    → SumTo (c .before .before .before .before .args .v .a) (c .before .before .loop .place + 1) (toZ w64 (c .before .before .loop .sum) +ℤ weight c)
+    → SumTo (c .before .before .before .before .args .gate .weights) (c .before .before .loop .place + 1) (toZ w64 (c .before .before .loop .sum) +ℤ weight c)
 sum-with c =
     let head = c .before .before in
-    let a = head .before .before .args .v .a in
+    let a = head .before .before .args .gate .weights in
     let count : length a ≡ 8 = search needs in
     sum-next a (head .loop .place) (toZ w64 (head .loop .sum)) (omega arith) (weight-fits c) (head .loop .inv .1)
 
@@ -79,7 +79,7 @@ loop-less c = search needs
 loop-again : tie.Need-loop-again Inv-loop μ-loop
 loop-again c = (omega arith, rw (toZ-ofZ (add-sum c), wide-back w64 tt (weight-fits c)) (sum-with c))
 
-threshold-fits : (c : tie.After-struct-told Inv-loop μ-loop) → SFits w32 (c .before .before .before .before .before .args .v .b)
+threshold-fits : (c : tie.After-struct-told Inv-loop μ-loop) → SFits w32 (c .before .before .before .before .before .args .gate .threshold)
 threshold-fits c = search needs
 
 cast-result : tie.Need-cast-result Inv-loop μ-loop
@@ -89,14 +89,14 @@ add-result : tie.Need-add-result Inv-loop μ-loop
 add-result c =
     let head = c .before .before .before in
     let sum = toZ w64 (head .loop .sum) in
-    let b = head .before .before .args .v .b in
+    let b = head .before .before .args .gate .threshold in
     rw (wide-back w64 tt (threshold-fits c)) (size-fits (omega (arith, size-add sum b, fits-size (threshold-fits c))))
 
 returns : tie.Need-returns Inv-loop μ-loop
 unfolding size
 returns c =
     let head = c .before .before .before in
-    let a = head .before .before .args .v .a in
+    let a = head .before .before .args .gate .weights in
     let count : length a ≡ 8 = search needs in
     let all : take (head .loop .place) a ≡ a = take-all (head .loop .place) a (omega arith) in
     let sum : toZ w64 (head .loop .sum) ≡ weightedSum a (λ place. 1) = rw all at (head .loop .inv .1 .0) in

@@ -22,13 +22,13 @@ slice-write-out-4 : tie.Need-slice-write-out-4
 slice-write-out-4 c = simp length-set (omega arith)
 
 slice-write-out-5 : tie.Need-slice-write-out-5
-slice-write-out-5 c = search needs
+slice-write-out-5 c = simp length-set (omega arith)
 
 same-length : tie.Need-same-length
 same-length c = search needs
 
 returns : tie.Need-returns
-returns c = (refl, written-all (now (c .args .out)) 0 tooLongLine (c .pre))
+returns c = (refl, written-all (now (c .args .out)) 0 tooLongLine (omega (arith, c .pre)))
 
 pub too-long-line-spec : {M : Type 1} → statement M
 too-long-line-spec =

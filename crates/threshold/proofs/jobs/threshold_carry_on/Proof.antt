@@ -10,17 +10,17 @@ use Rattle.numbers.proofs.Int.{back}
 use Rattle.cell.specs.Refusal.{Answered, answered}
 use Rattle.job.specs.declared.job.Job.{Job}
 use Rattle.job.specs.Calls.{carryOn}
-use Rattle.threshold.specs.Result.{andThen}
-use Rattle.threshold.specs.Interface.{outcomeWritten, carriedOn}
-use Rattle.threshold.proofs.ResultLaws.{returned-as, returned-refused}
+use Rattle.threshold.specs.Result.{andThen, Handed}
+use Rattle.threshold.specs.Interface.{handedBack, carriedOn}
+use Rattle.threshold.proofs.ResultLaws.{handed-as, handed-refused}
 use Rattle.threshold.proofs.TakenLaws.{no-job, with-job}
-use Rattle.threshold.proofs.DecidedLaws.{carried-refused, carried-done, carried-kept}
+use Rattle.threshold.proofs.DecidedLaws.{carried-refused, carried-done, carried-handed, carried-kept}
 use Rattle.threshold.proofs.jobs.threshold_carry_on.Statement.{statement}
 use Rattle.threshold.proofs.jobs.threshold_carry_on.Tie as tie
 
 -- what comes after a job that was read
-abbrev after : ℕ → ℕ → Job → Answered (List ℕ)
-after budget room j = andThen (carryOn j budget) (outcomeWritten room)
+abbrev after : ℕ → ℕ → Job → Answered Handed
+after budget room j = andThen (carryOn j budget) (handedBack room j)
 
 read-requires : tie.Need-read-requires
 read-requires c κs = search needs
@@ -34,7 +34,7 @@ returns c =
     let keys = c .before in
     let a = keys .before .before .before .before .args in
     let other = no-job (a .bytes .now) (keys .before .read .ensures) (keys .match .keys2) (after (a .budget) (length (a .out .now))) in
-    returned-refused (a .out .now) other (back w64 (c .not-taken .ok) ∙ c .not-taken .ensures)
+    handed-refused (a .out .now) (a .made .now) other (back w64 (c .not-taken .ok) ∙ c .not-taken .ensures)
 
 enum-told : tie.Need-enum-told
 enum-told c = search needs
@@ -55,6 +55,9 @@ module _ (c : tie.After-carry-on) where
   abbrev old : List ℕ
   old = start .args .out .now
 
+  abbrev held : ℕ
+  held = start .args .made .now
+
   abbrev budget : ℕ
   budget = start .args .budget
 
@@ -65,7 +68,7 @@ module _ (c : tie.After-carry-on) where
   call = carryOn job budget
 
   -- what the call on the job gives decides
-  past-job : andThen call (outcomeWritten (length old)) ≡ carriedOn bytes budget (length old)
+  past-job : andThen call (handedBack (length old) job) ≡ carriedOn bytes budget (length old)
   unfolding carriedOn
   past-job = with-job bytes (told .before .before .read .ensures) (told .enum-told .given .1) (after budget (length old))
 
@@ -80,7 +83,7 @@ returns-2 c =
     let known = c .before .before in
     let at = known .before .before in
     let e = carried-refused (job at) (call at) (at .carry-on .ensures) (known .status .given .1) in
-    returned-refused (old at) (ap (λ (a : Answered Job). andThen a (outcomeWritten (length (old at)))) e ∙ past-job at)
+    handed-refused (old at) (held at) (ap (λ (a : Answered Job). andThen a (handedBack (length (old at)) (job at))) e ∙ past-job at)
     (back w64 (c .refusal .ok) ∙ c .refusal .ensures)
 
 enum-told-2 : tie.Need-enum-told-2
@@ -92,7 +95,7 @@ next-is c = let at = c .before .before in carried-done (job at) (call at) (at .c
 
 put-outcome-requires : tie.Need-put-outcome-requires
 put-outcome-requires c κs =
-    let done = c .before .before in
+    let done = c .before .before .before in
     let at = done .before .before in
     carried-kept (job at) (at .carry-on .result .job) (budget at) (next-is done)
 
@@ -102,11 +105,11 @@ same-length c = search needs
 returns-3 : tie.Need-returns-3
 returns-3 c =
     let wrote = c .before .before in
-    let done = wrote .before .before .before in
+    let done = wrote .before .before .before .before in
     let at = done .before .before in
-    let same = ap (λ (a : Answered Job). andThen a (outcomeWritten (length (old at)))) (sym (next-is done)) in
-    let (r, b) = wrote .put-outcome .ensures in
-    returned-as (old at) (same ∙ past-job at) (back w64 (wrote .put-outcome .ok) ∙ r, b)
+    let handed = carried-handed (job at) (call at) (at .carry-on .ensures) (length (old at)) (done .enum-told2 .given .1) in
+    let (r, b, made) = wrote .put-outcome .ensures in
+    handed-as (old at) (held at) (handed ∙ past-job at) (back w64 (wrote .put-outcome .ok) ∙ r, b, made)
 
 pub threshold-carry-on-spec : {M : Type 1} → statement M
 threshold-carry-on-spec =

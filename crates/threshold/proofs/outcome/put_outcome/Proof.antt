@@ -1,4 +1,5 @@
--- `outcome::put_outcome` meets its contract: the length is at most 2,048, so it is a signed number of 64 bits. Assumes nothing.
+-- `outcome::put_outcome` meets its contract: the length is at most 2,048, so it is a signed number of 64 bits; the corrections are handed
+-- over where the bytes are. Assumes nothing.
 use mathlib.Core.Path.{_≡_, sym, _∙_, ap}
 use mathlib.Core.List.{List}
 use Prim.Native.Nat.{ℕ, _≤_}
@@ -18,7 +19,7 @@ use Rattle.records.specs.Record.{recordBytes}
 use Rattle.records.specs.Calls.{written}
 use Rattle.threshold.specs.Result.{asResult, measured}
 use Rattle.threshold.specs.Interface.{outcome, outcomeWritten}
-use Rattle.threshold.proofs.ResultLaws.{written-refused, written-length, fitted-length}
+use Rattle.threshold.proofs.ResultLaws.{written-refused, written-length, fitted-length, handed-with, made-handed, made-held}
 use Rattle.threshold.proofs.OutcomeLaws.{outcome-most}
 use Rattle.threshold.proofs.outcome.put_outcome.Statement.{statement}
 use Rattle.threshold.proofs.outcome.put_outcome.Tie as tie
@@ -65,7 +66,10 @@ returns : tie.Need-returns
 returns c =
     let at = c .before in
     let value : toZ w64 (at .answer .given .0 .0) ≡ pos (at .answer .given .0 .0) = toZ-pos w64 (omega (arith, small at)) in
+    let a = start (wrote at) .args in
+    handed-with (call (wrote at)) (a .corrections) (a .out .now) (a .made .now)
     (value ∙ ap asResult (written-length (call (wrote at)) (length-known at)), wrote at .write-outcome .ensures .1)
+    (made-handed (call (wrote at)) (a .corrections) (a .made .now) (length-known at))
 
 -- ---- a refusal
 
@@ -82,9 +86,12 @@ returns-2 : tie.Need-returns-2
 returns-2 c =
     let known = c .before .before in
     let at = known .before .before .before .before in
-    let e = written-refused (call at) (sym (at .write-outcome .ensures .0) ∙ known .answer2 .given .1) in
-    let same = ap (λ (a : Answered (List ℕ)). asResult (measured a)) e in
+    let a = start at .args in
+    let e = sym (at .write-outcome .ensures .0) ∙ known .answer2 .given .1 in
+    let same = ap (λ (x : Answered (List ℕ)). asResult (measured x)) (written-refused (call at) e) in
+    handed-with (call at) (a .corrections) (a .out .now) (a .made .now)
     (back w64 (c .refusal .ok) ∙ c .refusal .ensures ∙ same, at .write-outcome .ensures .1)
+    (made-held (call at) (a .corrections) (a .made .now) e)
 
 pub put-outcome-spec : {M : Type 1} → statement M
 put-outcome-spec =

@@ -13,12 +13,12 @@ use Rattle.cell.specs.Refusal.{refused}
 use Rattle.records.specs.declared.read.Kind.{Kind}
 use Rattle.records.specs.declared.read.Kind.the-variants as Kind′
 use Rattle.records.proofs.read.Kind.{the-type}
-use Rattle.threshold.specs.Result.{asResult, numberFor}
+use Rattle.threshold.specs.Result.{asResult, otherKind, numberFor}
 use Rattle.threshold.proofs.result.not_taken.Statement.{statement}
 use Rattle.threshold.proofs.result.not_taken.Tie as tie
 
 -- the number of another kind
-other : (k : Kind) → OneOf (0 ∷ 1 ∷ 2 ∷ 3 ∷ []) (tagOf the-type k) → 5 ≡ numberFor k
+other : (k : Kind) → OneOf (0 ∷ 1 ∷ 2 ∷ 3 ∷ []) (tagOf the-type k) → otherKind ≡ numberFor k
 other Kind′.Table o = refl
 other Kind′.Gate o = refl
 other Kind′.Witness o = refl

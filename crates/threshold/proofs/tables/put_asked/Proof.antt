@@ -1,7 +1,6 @@
--- `tables::put_asked` meets its contract, by what is asked: a table that keeps its format has at most eight inputs, and its job after one
--- carry-on keeps its rules. Assumes nothing.
-use mathlib.Core.Path.{_≡_, sym, _∙_, ap, subst}
-use mathlib.Core.List.{List, []}
+-- `tables::put_asked` meets its contract, by what is asked: a table that keeps its format has at most eight inputs. Assumes nothing.
+use mathlib.Core.Path.{_≡_, sym, _∙_, ap}
+use mathlib.Core.List.{List}
 use Prim.Native.Nat.{ℕ, _≤_}
 use lib.ListN.{length}
 use lib.IntN.{ℤ}
@@ -10,16 +9,13 @@ use borrow.Author.Needs.{needs}
 use Rattle.numbers.proofs.Int.{back}
 use Rattle.types.specs.declared.table.Table.{Table}
 use Rattle.types.specs.declared.inputs.Place.{Place}
-use Rattle.cell.specs.Refusal.{Answered, NoneBroken}
+use Rattle.cell.specs.Refusal.{Answered}
 use Rattle.cell.proofs.TableChecked.{kept-inputs}
-use Rattle.job.specs.declared.job.Job.{Job}
-use Rattle.job.specs.Calls.{jobRules}
 use Rattle.threshold.specs.declared.tables.Asked.{Asked}
 use Rattle.threshold.specs.Result.{fitted}
 use Rattle.threshold.specs.Inputs.{kindBytes, chowBytes}
-use Rattle.threshold.specs.Interface.{outcomeWritten, askedOf}
+use Rattle.threshold.specs.Interface.{askedOf}
 use Rattle.threshold.proofs.ResultLaws.{Returned, returned-as}
-use Rattle.threshold.proofs.DecidedLaws.{decided-kept}
 use Rattle.threshold.proofs.tables.put_asked.Statement.{statement}
 use Rattle.threshold.proofs.tables.put_asked.Tie as tie
 
@@ -41,19 +37,16 @@ module _ (c : tie.Start) where
       → Returned (askedOf (c .args .asked) room table) old r new
   as-asked e same = returned-as old (same ∙ ap (λ (x : Asked). askedOf x room table) (sym e))
 
--- ---- the outcome
+-- ---- the kinds
 
 enum-told : tie.Need-enum-told
 enum-told c = search needs
 
-decided-job-requires : tie.Need-decided-job-requires
-decided-job-requires c κs = search needs
+all-kinds-requires : tie.Need-all-kinds-requires
+all-kinds-requires c κs = few (c .before .before .before)
 
-put-outcome-requires : tie.Need-put-outcome-requires
-put-outcome-requires c κs =
-    let made = c .before in
-    let s = made .before .before .before .before in
-    subst (λ (j : Job). NoneBroken (jobRules j [])) (sym (made .decided-job .ensures)) (decided-kept (table s) (s .pre))
+put-kinds-requires : tie.Need-put-kinds-requires
+put-kinds-requires c κs = search needs
 
 same-length : tie.Need-same-length
 same-length c = search needs
@@ -64,19 +57,20 @@ returns c =
     let made = wrote .before .before in
     let told = made .before in
     let s = told .before .before .before in
-    let (r, b) = wrote .put-outcome .ensures in
-    as-asked s (told .enum-told .given .1) (ap (outcomeWritten (room s)) (made .decided-job .ensures)) (back w64 (wrote .put-outcome .ok) ∙ r, b)
+    let same = ap (λ (places : List Place). fitted (room s) (kindBytes places)) (made .all-kinds .ensures) in
+    let (r, b) = wrote .put-kinds .ensures in
+    as-asked s (told .enum-told .given .1) same (back w64 (wrote .put-kinds .ok) ∙ r, b)
 
--- ---- the kinds
+-- ---- Chow's parameters
 
 enum-told-2 : tie.Need-enum-told-2
 enum-told-2 c = search needs
 
-all-kinds-requires : tie.Need-all-kinds-requires
-all-kinds-requires c κs = few (c .before .before .before)
+all-chow-requires : tie.Need-all-chow-requires
+all-chow-requires c κs = few (c .before .before .before)
 
-put-kinds-requires : tie.Need-put-kinds-requires
-put-kinds-requires c κs = search needs
+put-chow-requires : tie.Need-put-chow-requires
+put-chow-requires c κs = search needs
 
 same-length-2 : tie.Need-same-length-2
 same-length-2 c = search needs
@@ -87,50 +81,21 @@ returns-2 c =
     let made = wrote .before .before in
     let told = made .before in
     let s = told .before .before .before in
-    let same = ap (λ (places : List Place). fitted (room s) (kindBytes places)) (made .all-kinds .ensures) in
-    let (r, b) = wrote .put-kinds .ensures in
-    as-asked s (told .enum-told2 .given .1) same (back w64 (wrote .put-kinds .ok) ∙ r, b)
-
--- ---- Chow's parameters
-
-enum-told-3 : tie.Need-enum-told-3
-enum-told-3 c = search needs
-
-all-chow-requires : tie.Need-all-chow-requires
-all-chow-requires c κs = few (c .before .before .before)
-
-put-chow-requires : tie.Need-put-chow-requires
-put-chow-requires c κs = search needs
-
-same-length-3 : tie.Need-same-length-3
-same-length-3 c = search needs
-
-returns-3 : tie.Need-returns-3
-returns-3 c =
-    let wrote = c .before .before in
-    let made = wrote .before .before in
-    let told = made .before in
-    let s = told .before .before .before in
     let same = ap (λ (q : List ℤ). fitted (room s) (chowBytes q)) (made .all-chow .ensures) in
     let (r, b) = wrote .put-chow .ensures in
-    as-asked s (told .enum-told3 .given .1) same (back w64 (wrote .put-chow .ok) ∙ r, b)
+    as-asked s (told .enum-told2 .given .1) same (back w64 (wrote .put-chow .ok) ∙ r, b)
 
 pub put-asked-spec : {M : Type 1} → statement M
 put-asked-spec =
     tie.close
     (tie.spec
     enum-told
-    decided-job-requires
-    put-outcome-requires
-    enum-told-2
     all-kinds-requires
     put-kinds-requires
-    enum-told-3
+    enum-told-2
     all-chow-requires
     put-chow-requires
     same-length
     returns
     same-length-2
-    returns-2
-    same-length-3
-    returns-3)
+    returns-2)

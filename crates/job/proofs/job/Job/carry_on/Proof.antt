@@ -1,6 +1,6 @@
 -- `job::job::Job::carry_on` meets its contract: the job's rules first, by `job_status`, then the budget's; an ended job answers as it is, and
 -- an open one that stays within the cap runs. Assumes nothing.
-use mathlib.Core.Path.{_≡_, sym, _∙_, ap}
+use mathlib.Core.Path.{_≡_, sym, _∙_, ap, subst}
 use mathlib.Core.Logic.{⊎-elim}
 use mathlib.Core.Bool.{true, _||_}
 use mathlib.Core.List.{List, [], _∷_}
@@ -13,10 +13,13 @@ use Rattle.numbers.proofs.TestLaws.{or-neither}
 use Rattle.cell.specs.Refusal.{Rule, Answered, answered, checked}
 use Rattle.cell.specs.declared.refusal.Status.the-variants as Status′
 use Rattle.cell.proofs.RefusalLaws.{rule-broken, rule-kept}
+use Rattle.types.specs.declared.state.State.{State}
+use Rattle.state.specs.Machine as state-machine
+use Rattle.state.specs.Sound as state
 use Rattle.job.specs.declared.job.Job.{Job}
 use Rattle.types.specs.declared.stage.Stage.{Stage}
 use Rattle.types.specs.declared.stage.Stage.the-variants.{Open}
-use Rattle.job.specs.Machine.{run}
+use Rattle.job.specs.Machine.{jobOf, run}
 use Rattle.job.specs.Sound.{cap}
 use Rattle.job.specs.Calls.{callBudget, budgetRange, pastCap, ifOpen, carryOn, carried}
 use Rattle.job.proofs.Soundness.{run-grows}
@@ -137,26 +140,50 @@ capped c = omega (arith, sub-if4 (c .before .before))
 step-table-requires : tie.Need-step-table-requires
 step-table-requires c κs = search needs
 
+state-of-requires : tie.Need-state-of-requires
+state-of-requires c κs = search needs
+
 steps-requires : tie.Need-steps-requires
 steps-requires c κs =
-    let left = c .before .before in
+    let left = c .before .before .before .before in
     let at = left .before .before in
+    let j = self (told at) in
+    let is = c .before .state-of .ensures in
     let says = told at .before .before .job-status .ensures in
-    let done = told at .enum-told .given .1 in
-    (job-inputs (self (told at)) says done, job-sound (self (told at)) says done, capped left, c .before .step-table .ensures)
+    let done = told at .enum-told .given .1 in (
+      job-inputs j says done,
+      subst (state.Sound (j .table)) (sym is) (job-sound j says done),
+      omega (arith, capped left, ap (λ (x : State). x .k) is),
+      c .before .before .step-table .ensures,
+    )
+
+job-of-requires : tie.Need-job-of-requires
+job-of-requires c κs = search needs
+
+-- the job of the state after the steps is the machine's
+abbrev stepped : tie.After-job-of → tie.Else4
+stepped c = c .before .before .before .before .before .before
+
+machine : (c : tie.After-job-of) → let at = told (stepped c .before .before) in c .job-of .result ≡ run (budget at) (self at)
+unfolding run
+machine c =
+    let at = told (stepped c .before .before) in
+    let t = self at .table in
+    let is = c .before .before .before .state-of .ensures in
+    c .job-of .ensures ∙ ap (jobOf t) (c .before .steps .ensures ∙ ap (state-machine.run t (budget at)) is)
 
 sub-made : tie.Need-sub-made
 sub-made c =
-    let at = c .before .before .before .before .before .before .before in
-    omega (arith, run-grows (self (told at)) (budget (told at)), ap (λ (j : Job). j .k) (c .before .before .steps .ensures))
+    let at = told (stepped (c .before .before) .before .before) in
+    omega (arith, run-grows (self at) (budget at), ap (λ (j : Job). j .k) (machine (c .before .before)))
 
 returns-5 : tie.Need-returns-5
 returns-5 c =
-    let left = c .before .before .before .before .before in
+    let left = stepped (c .before .before) in
     let at = left .before .before in
     let j = self (told at) in
     let b = budget (told at) in
-    within at (ap answered (c .before .before .steps .ensures) ∙ rule-kept 11 [] (answered (run b j)) (le-ltb cap (j .k + b) (capped left)))
+    within at (ap answered (machine (c .before .before)) ∙ rule-kept 11 [] (answered (run b j)) (le-ltb cap (j .k + b) (capped left)))
 
 pub carry-on-spec : {M : Type 1} → statement M
 carry-on-spec =
@@ -175,6 +202,8 @@ carry-on-spec =
     refused-requires-3
     returns-4
     step-table-requires
+    state-of-requires
     steps-requires
+    job-of-requires
     sub-made
     returns-5)

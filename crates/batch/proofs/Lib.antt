@@ -1,0 +1,4 @@
+pub mod ReportLaws
+pub mod AdvanceLaws
+pub mod LeftLaws
+pub mod FillLaws

@@ -1,0 +1,73 @@
+-- A report line by line (document 01, "Kinds, Chow, report"). Definitions only. Assumes nothing.
+use mathlib.Core.Bool.{Bool, true, false}
+use mathlib.Core.List.{List, [], _++_}
+use Prim.Native.Nat.{ℕ, zero, suc, _+_, _*_, _≤_}
+use lib.Dec.{ltb}
+use lib.ListN.{length}
+use Rattle.cell.specs.Refusal.{answered, refused}
+use Rattle.job.specs.Sound.{cap}
+use Rattle.codec.specs.Field.{Reading}
+use Rattle.codec.specs.Head.{Head, headAt}
+use Rattle.reporting.specs.declared.tally.Tally.{Tally}
+use Rattle.reporting.specs.Lines.{recordLine, refusalLine, lastLine}
+use Rattle.reporting.specs.Report.{inputMost, decided, noTally, counted}
+use Rattle.batch.specs.declared.progress.Step.{Step}
+use Rattle.batch.specs.declared.progress.Step.the-variants.{Records, Last, Done}
+use Rattle.batch.specs.declared.progress.Progress.{Progress}
+
+-- a line, and how far the report is after it
+pub record Advance : Type 0 where
+  pub line : List ℕ
+  pub next : Progress
+
+abbrev pub progress : ℕ → Tally → Step → Progress
+progress at t step = record { at = at; tally = t; step = step }
+
+abbrev pub start : Progress
+start = progress 0 noTally Records
+
+-- whether no line is left
+abbrev pub isDone : Step → Bool
+isDone Records = false
+isDone Last = false
+isDone Done = true
+
+-- the numbers of a report that started at the start: each record took a byte of the input at least, and its K is at most the cap
+pub record Bounded (p : Progress) : Type 0 where
+  pub within : p .at ≤ inputMost
+  pub records : p .tally .records ≤ p .at
+  pub gates : p .tally .gates ≤ p .tally .records
+  pub witnesses : p .tally .witnesses ≤ p .tally .records
+  pub opens : p .tally .opens ≤ p .tally .records
+  pub sum : p .tally .sum ≤ cap * p .tally .records
+
+-- the line of the record at a position, or of its refusal
+abbrev pub advanceBy : ℕ → Tally → Reading Head → Advance
+advanceBy at t (refused n) = record { line = refusalLine (t .records + 1) n; next = progress at t Last }
+advanceBy at t (answered f) =
+    record { line = recordLine (t .records + 1) (decided (f .value .table)); next = progress (f .next) (counted (decided (f .value .table) .stage) (decided (f .value .table) .k) t) Records }
+
+abbrev pub lastOf : ℕ → Tally → Advance
+lastOf at t = record { line = lastLine t; next = progress at t Done }
+
+abbrev pub pickAdvance : Bool → Advance → Advance → Advance
+pickAdvance true a b = a
+pickAdvance false a b = b
+
+abbrev pub advanceIn : Step → List ℕ → Progress → Advance
+advanceIn Records s p = pickAdvance (ltb (p .at) (length s)) (advanceBy (p .at) (p .tally) (headAt 1 s (p .at))) (lastOf (p .at) (p .tally))
+advanceIn Last s p = lastOf (p .at) (p .tally)
+advanceIn Done s p = record { line = []; next = p }
+
+unfoldable pub advance : List ℕ → Progress → Advance
+advance s p = advanceIn (p .step) s p
+
+-- so many lines, one after another
+unfoldable pub linesFrom : ℕ → List ℕ → Progress → List ℕ
+linesFrom zero s p = []
+linesFrom (suc m) s p = advance s p .line ++ linesFrom m s (advance s p .next)
+
+-- how far the report is after so many lines
+unfoldable pub after : ℕ → List ℕ → Progress → Progress
+after zero s p = p
+after (suc m) s p = after m s (advance s p .next)

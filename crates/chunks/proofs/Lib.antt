@@ -1,0 +1,4 @@
+pub mod CodeLaws
+pub mod ClearLaws
+pub mod HeldLaws
+pub mod ChunkLaws

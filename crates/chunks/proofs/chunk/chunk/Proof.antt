@@ -1,0 +1,288 @@
+-- `chunks::chunk::chunk` meets its contract. The loop's invariant is `Going` of ChunkLaws, which has the laws of a turn; the measure is what
+-- is left of the budget. Assumes nothing.
+use mathlib.Core.Path.{_≡_, refl, sym, _∙_, ap, ap₂}
+use mathlib.Core.Logic.{⊎-elim, _≢_}
+use Prim.Native.Nat.{_+_, _-_, _/_, _≤_, _<_}
+use native.Mathlib.Omega.{arith}
+use borrow.Author.Needs.{needs}
+use lib.ListN.{length-set}
+use borrow.Author.Tests.{eq-eqb, ne-eqb, ltb-true, ltb-false}
+use Rattle.numbers.proofs.TabulateLaws.{filled}
+use Rattle.table.specs.Table.{rows}
+use Rattle.table.proofs.TableLaws.{rows-le}
+use Rattle.types.specs.declared.table.Table.{Table}
+use Rattle.types.specs.declared.state.State.{State}
+use Rattle.chunks.specs.Core.{stateOf}
+use Rattle.state.proofs.StandsLaws.{Bounded}
+use Rattle.chunks.proofs.HeldLaws.{withVectors, Held, held-start, restores}
+use Rattle.chunks.proofs.ChunkLaws.{Begun, Turned, Going, held-narrow, held-turned, turned-bounded, turned-row, turned-cleared, turned-going, turned-closed, turned-marked, turned-other, going-ends}
+use Rattle.chunks.proofs.chunk.chunk.Statement.{statement}
+use Rattle.chunks.proofs.chunk.chunk.Tie as tie
+
+abbrev Inv-loop : tie.InvT-loop
+Inv-loop table counts₀ budget steps rows ones keys j₀ v₀ s₀ next₀ made₀ counts j v s next made =
+    Going table (stateOf j₀ counts₀) budget made (stateOf j counts) v s next
+
+abbrev μ-loop : tie.MeasureT-loop
+μ-loop table counts₀ budget steps rows ones keys j₀ v₀ s₀ next₀ made₀ counts j v s next made = budget - made
+
+-- ---- before the loop
+
+row-count-requires : tie.Need-row-count-requires Inv-loop μ-loop
+row-count-requires c κs = search needs
+
+lane-values-requires : tie.Need-lane-values-requires Inv-loop μ-loop
+lane-values-requires c κs = search needs
+
+store-ones-requires : tie.Need-store-ones-requires Inv-loop μ-loop
+store-ones-requires c κs = let at = c .before .before in ((at .before .before .pre .0 .0, at .lane-values .ensures), refl)
+
+store-keys-requires : tie.Need-store-keys-requires Inv-loop μ-loop
+store-keys-requires c κs =
+    let at = c .before .before .before .before .before in ((at .before .before .pre .0 .0, at .lane-values .ensures), refl)
+
+-- where the tables are made, and where the function began
+abbrev entry : tie.After-store-keys Inv-loop μ-loop → tie.Start Inv-loop μ-loop
+entry c = c .before .before .before .before .before .before .before .before
+
+-- the table, and the state that it began with
+abbrev table : tie.After-store-keys Inv-loop μ-loop → Table
+table c = entry c .args .table
+
+abbrev state : tie.After-store-keys Inv-loop μ-loop → State
+state c = stateOf (entry c .args .core) (entry c .args .counts .now)
+
+-- `rows` is the number of the table's rows
+rows-of : (c : tie.After-store-keys Inv-loop μ-loop)
+    → c .before .before .before .before .before .before .before .row-count .result ≡ rows (table c)
+rows-of c = c .before .before .before .before .before .before .before .row-count .ensures
+
+begun : (c : tie.After-store-keys Inv-loop μ-loop) → Begun (table c) (state c) (entry c .args .budget)
+begun c = let p = entry c .pre in record { inputs = p .0 .0; sound = p .0 .1; capped = p .0 .3; few = p .1 .0 }
+
+sums-of-requires : tie.Need-sums-of-requires Inv-loop μ-loop
+sums-of-requires c κs = let p = entry c .pre in (p .0 .1 .shaped .weights, omega (arith, p .1 .1))
+
+sums-of-requires-2 : tie.Need-sums-of-requires-2 Inv-loop μ-loop
+sums-of-requires-2 c κs = let p = entry (c .before) .pre in (p .0 .1 .shaped .copied, omega (arith, p .1 .2))
+
+-- the sums where the loop begins
+abbrev tabled : tie.After-keys2 Inv-loop μ-loop → tie.After-store-keys Inv-loop μ-loop
+tabled c = c .before .before .before .before .before
+
+started : (c : tie.After-keys2 Inv-loop μ-loop)
+    → let at = c .before .before .before in
+    Held (table (tabled c)) (state (tabled c)) 0 (state (tabled c)) (at .before .sums-of .result) (at .sums-of2 .result)
+started c =
+    let at = c .before .before .before in
+    let p = entry (tabled c) .pre in
+    held-start (p .0 .1) (p .0 .2) (p .1 .1) (at .before .sums-of .ensures) (at .sums-of2 .ensures)
+
+-- the search asks for the rows' ones and keys
+lowest-requires : tie.Need-lowest-requires Inv-loop μ-loop
+lowest-requires c κs =
+    let from = tabled c in (
+      (begun from .inputs, from .before .before .before .store-ones .ensures, from .store-keys .ensures),
+      held-narrow (begun from) (omega arith) (started c),
+    )
+
+loop-holds : tie.Need-loop-holds Inv-loop μ-loop
+loop-holds c =
+    let from = begun (tabled (c .before)) in
+    turned-going from (held-turned from (omega arith) (started (c .before)) (c .lowest .ensures))
+
+-- ---- the row of a turn
+
+abbrev from-head : tie.At-loop Inv-loop μ-loop → tie.After-store-keys Inv-loop μ-loop
+from-head c = tabled (c .before .before)
+
+-- the loop's state
+abbrev looped : tie.At-loop Inv-loop μ-loop → State
+looped c = stateOf (c .loop .j) (c .loop .counts)
+
+abbrev head : tie.Then1 Inv-loop μ-loop → tie.At-loop Inv-loop μ-loop
+head c = c .before .before
+
+-- `next` is a row's code
+coded : (c : tie.Then1 Inv-loop μ-loop) → head c .loop .next < 512
+coded c = ltb-true (head c .loop .next) 512 (c .if1 .taken)
+
+other : (c : tie.Then1 Inv-loop μ-loop) → head c .loop .next ≢ 512
+other c e = omega (arith, coded c)
+
+turned : (c : tie.Then1 Inv-loop μ-loop)
+    → let at = head c in
+    let from = from-head at in
+    Turned (table from) (state from) (entry from .args .budget) (at .loop .made) (looped at) (at .loop .v) (at .loop .s) (at .loop .next)
+turned c = head c .loop .inv .turned (omega (arith, coded c))
+
+-- no number of the turn's state wraps
+bounded : (c : tie.Then1 Inv-loop μ-loop) → Bounded (table (from-head (head c))) (withVectors (turned c .held .v) (turned c .held .s) (looped (head c)))
+bounded c = turned-bounded (begun (from-head (head c))) (turned c)
+
+-- the row is one of the 256
+row-below : (c : tie.Then1 Inv-loop μ-loop) → head c .loop .next / 2 < 256
+row-below c = turned-row (begun (from-head (head c))) (turned c) (other c)
+
+add-j : tie.Need-add-j Inv-loop μ-loop
+add-j c = omega (arith, bounded (c .before) .capped)
+
+mul-counts : tie.Need-mul-counts Inv-loop μ-loop
+mul-counts c = omega (arith, row-below (c .before))
+
+element-copy-out-counts : tie.Need-element-copy-out-counts Inv-loop μ-loop
+element-copy-out-counts c = row-below (c .before)
+
+add-counts : tie.Need-add-counts Inv-loop μ-loop
+add-counts c = let at = c .before .before in omega (arith, bounded at .count (head at .loop .next / 2))
+
+mul-counts-2 : tie.Need-mul-counts-2 Inv-loop μ-loop
+mul-counts-2 c = omega (arith, row-below (c .before .before))
+
+element-write-counts : tie.Need-element-write-counts Inv-loop μ-loop
+element-write-counts c = row-below (c .before .before)
+
+-- ---- the correction
+
+correct-requires : tie.Need-correct-requires Inv-loop μ-loop
+correct-requires c κs =
+    let at = c .before .before .before in
+    let from = from-head (head at) in
+    (coded at, entry from .pre .1 .3, held-narrow (begun from) (turned at .within) (turned at .held) .0)
+
+-- the turn's row, from the comparison
+abbrev turn : tie.After-s Inv-loop μ-loop → tie.Then1 Inv-loop μ-loop
+turn c = c .before .before .before .before .before .before
+
+same-sums-requires : tie.Need-same-sums-requires Inv-loop μ-loop
+same-sums-requires c κs = begun (from-head (head (turn c))) .inputs
+
+-- ---- what follows it
+
+top-power-requires : tie.Need-top-power-requires Inv-loop μ-loop
+top-power-requires c κs = search needs
+
+-- the comparison, from past step 4
+abbrev compared : tie.After-struct-known2 Inv-loop μ-loop → tie.After-same-sums Inv-loop μ-loop
+compared c = c .before .before .before
+
+clear-requires : tie.Need-clear-requires Inv-loop μ-loop
+clear-requires c κs =
+    let at = turn (compared (c .before .before) .before) in
+    let from = from-head (head at) in (
+      length-set (head at .loop .counts) (head at .loop .next / 2) _ ∙ bounded at .shaped .counts,
+      omega (arith, rows-of from, rows-le (begun from .inputs)),
+    )
+
+-- there the loop stands at the next step
+held-on : (c : tie.Joined3 Inv-loop μ-loop)
+    → let at = head (turn (compared (c .before) .before)) in
+    let from = from-head at in
+    let sums = compared (c .before) .before .before .before .correct .last .0 in
+    Held (table from) (state from) (at .loop .made + 1) (stateOf (c .if3 .j) (c .if3 .counts)) sums (c .if3 .s)
+held-on c =
+    let at = turn (compared (c .before) .before) in
+    let from = from-head (head at) in
+    let corrects = compared (c .before) .before .before .before .correct .ensures in
+    let compares = compared (c .before) .same-sums .ensures in
+    let differs = c .before .before .before .if2 .left in
+    let power = c .before .before .top-power .ensures in
+    ⊎-elim
+    (λ w.
+    let uncounted = turned-cleared (begun from) (turned at) (other at) (w .2 .ensures ∙ ap (filled _ _) (rows-of from)) in
+    turned-marked (begun from) (turned at) (other at) corrects compares differs (eq-eqb _ _ (sym power ∙ w .0 .taken))
+    (ap₂ stateOf (w .4) (w .3 ∙ uncounted)) (w .5))
+    (λ w.
+    turned-other (begun from) (turned at) (other at) corrects compares differs (ne-eqb _ _ (λ e. w .0 .left (power ∙ e)))
+    (ap₂ stateOf (w .2) (w .1)) (w .3))
+    (c .if3 .came)
+
+lowest-requires-2 : tie.Need-lowest-requires-2 Inv-loop μ-loop
+lowest-requires-2 c κs =
+    let on = c .before .before .before in
+    let at = turn (compared (on .before) .before) in
+    let from = from-head (head at) in (
+      (begun from .inputs, from .before .before .before .store-ones .ensures, from .store-keys .ensures),
+      held-narrow (begun from) (omega (arith, at .before .loop-test .taken)) (held-on on),
+    )
+
+add-made : tie.Need-add-made Inv-loop μ-loop
+add-made c =
+    let at = turn (c .before .before) in
+    omega (arith, at .before .loop-test .taken, begun (from-head (head at)) .few)
+
+loop-less : tie.Need-loop-less Inv-loop μ-loop
+loop-less c = search needs
+
+loop-again : tie.Need-loop-again Inv-loop μ-loop
+loop-again c =
+    let at = turn (c .before .before) in
+    let from = from-head (head at) in
+    let more = at .before .loop-test .taken in
+    let corrects = c .before .before .before .before .correct .ensures in
+    ⊎-elim
+    (λ w.
+    turned-closed (begun from) (turned at) (other at) corrects (c .before .same-sums .ensures) more (w .0 .taken) (ap₂ stateOf (w .2) (w .1)) (w .3) (w .4))
+    (λ w.
+    let on =
+    held-on (record {
+      before = record { before = record { before = record { before = c .before; if2 = w .0 }; top-power = w .1 }; struct-known2 = w .2 };
+      if3 = w .3;
+    }) in
+    rw (w .8, w .9, w .10, w .11) (turned-going (begun from) (held-turned (begun from) (omega (arith, more)) on (w .7 .ensures))))
+    (c .if2 .came)
+
+-- ---- after the loop
+
+vector-of-requires : tie.Need-vector-of-requires Inv-loop μ-loop
+vector-of-requires c κs = search needs
+
+vector-of-requires-2 : tie.Need-vector-of-requires-2 Inv-loop μ-loop
+vector-of-requires-2 c κs = search needs
+
+stage-of-requires : tie.Need-stage-of-requires Inv-loop μ-loop
+stage-of-requires c κs = c .before .before .before .before .before .loop .inv .known
+
+returns : tie.Need-returns Inv-loop μ-loop
+returns c =
+    let left = c .before .before .before .before .before in
+    let at = left .before in
+    let current = c .before .before .before .vector-of in
+    let copied = c .before .vector-of2 in
+    let all : at .loop .next < 512 → entry (from-head at) .args .budget ≤ at .loop .made =
+    λ h. ⊎-elim (λ w. absurd (omega (arith, ltb-false (at .loop .next) 512 (w .1 .left)))) (λ w. w .left) (left .loop-test .came) in
+    going-ends (begun (from-head at)) (at .loop .inv) (c .stage-of .ensures) all
+    (restores (looped at) (c .stage-of .result) (current .result) (copied .result) (current .ensures) (copied .ensures))
+
+pub chunk-spec : {M : Type 1} → statement M
+chunk-spec =
+    tie.close
+    (tie.spec
+    Inv-loop
+    μ-loop
+    row-count-requires
+    lane-values-requires
+    store-ones-requires
+    store-keys-requires
+    sums-of-requires
+    sums-of-requires-2
+    lowest-requires
+    loop-holds
+    add-j
+    mul-counts
+    element-copy-out-counts
+    add-counts
+    mul-counts-2
+    element-write-counts
+    correct-requires
+    same-sums-requires
+    top-power-requires
+    clear-requires
+    lowest-requires-2
+    add-made
+    loop-less
+    loop-again
+    vector-of-requires
+    vector-of-requires-2
+    stage-of-requires
+    returns)

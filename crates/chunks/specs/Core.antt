@@ -1,0 +1,10 @@
+-- A state taken apart for the fast form of its steps: its core and its counts. For the inside of the machine alone. Definitions only.
+-- Assumes nothing.
+use mathlib.Core.List.{List}
+use Prim.Native.Nat.{ℕ}
+use Rattle.types.specs.declared.state.State.{State}
+use Rattle.chunks.specs.declared.core.Core.{Core}
+
+-- the state put together
+abbrev pub stateOf : Core → List ℕ → State
+stateOf c counts = record { k = c .k; v = c .v; mark = c .mark; s = c .s; counts = counts; stage = c .stage }

@@ -1,0 +1,195 @@
+-- What is decided is right: a job that keeps its rules is sound, so what it has come to is right by its stage, in whatever form it is
+-- shown. The report's lines go by induction over its records. Assumes nothing.
+use mathlib.Core.Path.{_≡_, refl, sym, _∙_, ap, subst}
+use mathlib.Core.Bool.{Bool, true, false}
+use mathlib.Core.Logic.{inl, inr}
+use mathlib.Core.List.{List, [], _∷_, _++_}
+use Prim.Native.Nat.{ℕ, zero, suc, _+_, _-_, _≤_, _<_}
+use native.Mathlib.Omega.{arith}
+use lib.Dec.{ltb}
+use lib.ListN.{length}
+use borrow.Author.Tests.{le-ltb, ltb-true, ltb-false}
+use Rattle.types.specs.declared.table.Table.{Table}
+use Rattle.types.specs.declared.stage.Stage.{Stage}
+use Rattle.types.specs.declared.stage.Stage.the-variants.{Open, Found, Looped, Binate}
+use Rattle.cell.specs.Refusal.{Answered, answered, refused, NoneBroken}
+use Rattle.cell.specs.Calls.{tableRules}
+use Rattle.cell.proofs.RefusalLaws.{answered-none-broken}
+use Rattle.cell.proofs.TableChecked.{kept-inputs, table-kept}
+use Rattle.job.specs.declared.job.Job.{Job}
+use Rattle.job.specs.Machine.{run, fresh}
+use Rattle.job.specs.Sound.{Sound}
+use Rattle.job.specs.Calls.{callBudget, jobRules, carryOn, gateOf, witnessOf}
+use Rattle.job.proofs.MachineLaws.{fresh-table, run-table}
+use Rattle.job.proofs.Soundness.{run-grows}
+use Rattle.job.proofs.JobChecked.{kept-sound}
+use Rattle.codec.specs.Field.{Field, Reading}
+use Rattle.codec.specs.Number.{pickBytes}
+use Rattle.codec.specs.Head.{Head, headAt}
+use Rattle.codec.proofs.HeadLaws.{head-taken, head-forward}
+use Rattle.codec.proofs.StandsLaws.{AllBytes}
+use Rattle.records.specs.Record.{Record, ofTable, ofGate, ofWitness, ofJob, recordBytes, readRecord}
+use Rattle.records.specs.Calls.{recordRules, tooShort}
+use Rattle.records.proofs.WriteBack.{write-back}
+use Rattle.reporting.specs.declared.tally.Tally.{Tally}
+use Rattle.reporting.specs.Text.{decimal, spaced, lineFeed}
+use Rattle.reporting.specs.Lines.{verdictText, recordLine, refusalLine, lastLine, tooLongLine}
+use Rattle.reporting.specs.Report.{inputMost, decided, noTally, counted, recordThen, reportFrom, report}
+use Rattle.reporting.proofs.DecidedLaws.{decided-run}
+use Rattle.theory.proofs.Answers.{EndedWithout, found-realises, found-accepted, ended-balances, ended-accepted, ended-excludes}
+use Rattle.threshold.specs.Result.{andThen, Handed}
+use Rattle.threshold.specs.Interface.{tableIn, jobIn, tableRead, jobRead, outcomeIn, outcome, outcomeWritten, handedBack, decide, carriedOn}
+use Rattle.threshold.proofs.DecidedLaws.{decided-kept, carried-kept}
+use Rattle.claims.specs.Jobs.{Taken}
+use Rattle.claims.specs.Decided.{RightWitness, Right, gate, witness, given-up, machineJob, outcomeText, outcomeLine, RightLine, RightLines, table, refusal, last, RightHanded, DecidedIsRight}
+use Rattle.claims.proofs.CarryOn.{carried-on}
+
+-- ---- an outcome
+
+module _ (m : Job) (kept : NoneBroken (jobRules m [])) where
+  sound : Sound m
+  sound = kept-sound m kept
+
+  taken : NoneBroken (tableRules (m .table) [])
+  taken = table-kept (m .table) kept
+
+  right-witness : EndedWithout m → RightWitness (m .table) (witnessOf m)
+  right-witness e =
+      let few = kept-inputs (m .table) taken in
+      record { balances = ended-balances m few sound e; accepted = ended-accepted m sound taken e; no-gate = ended-excludes m few sound e }
+
+  -- what a job has come to is right, by its stage
+  right-in : (form : Record → List ℕ) (x : Stage) → m .stage ≡ x → Right (m .table) m form (form (outcomeIn x m))
+  right-in form Open e = given-up e
+  right-in form Found e = gate (gateOf m) (record { realises = found-realises m sound e; accepted = found-accepted m sound taken e })
+  right-in form Looped e = witness (witnessOf m) (right-witness (inl e))
+  right-in form Binate e = witness (witnessOf m) (right-witness (inr e))
+
+  -- for the table that it is a job of
+  right-outcome : (t : Table) (form : Record → List ℕ) → m .table ≡ t → Right t m form (form (outcome m))
+  right-outcome t form e = subst (λ (u : Table). Right u m form (form (outcome m))) e (right-in form (m .stage) refl)
+
+-- ---- a line
+
+-- a record's line shows what its job has come to
+text-in : (x : Stage) (m : Job) → verdictText x m ≡ outcomeText (m .k) (outcomeIn x m)
+text-in Open m = refl
+text-in Found m = refl
+text-in Looped m = refl
+text-in Binate m = refl
+
+line-is : (position : ℕ) (m : Job) → recordLine position m ≡ outcomeLine position (m .table) (m .k) (outcome m)
+unfolding recordLine
+line-is position m = ap (λ (text : List ℕ). decimal position ++ (spaced (decimal (m .table .n)) ++ (text ++ lineFeed))) (text-in (m .stage) m)
+
+machine-table : (t : Table) → machineJob t .table ≡ t
+machine-table t = run-table callBudget (fresh t) ∙ fresh-table t
+
+-- so the line of a table is right
+right-line : (t : Table) → Taken t → (position : ℕ) → RightLine position t (recordLine position (decided t))
+right-line t kept position =
+    let m = machineJob t in
+    let same : recordLine position (decided t) ≡ outcomeLine position t (m .k) (outcome m) =
+    ap (recordLine position) (sym (decided-run t)) ∙ line-is position m ∙ ap (λ (u : Table). outcomeLine position u (m .k) (outcome m)) (machine-table t) in
+    subst (RightLine position t) (sym same) (right-outcome m (decided-kept t kept) t (outcomeLine position t (m .k)) (machine-table t))
+
+-- ---- a report
+
+-- one record more, whatever its job
+counted-more : (x : Stage) (k : ℕ) (t : Tally) → counted x k t .records ≡ t .records + 1
+counted-more Open k t = refl
+counted-more Found k t = refl
+counted-more Looped k t = refl
+counted-more Binate k t = refl
+
+module _ (s : List ℕ) where
+  -- the record at a position, where the rest of the report is right
+  right-record : (rest : ℕ → Tally → List ℕ) (at : ℕ) (t : Tally) (r : Reading Head) → headAt 1 s at ≡ r → at < length s
+      → ((next : ℕ) (u : Tally) → at < next → RightLines s next (u .records + 1) (rest next u)) → RightLines s at (t .records + 1) (recordThen rest t r)
+  right-record rest at t (refused n) e here later = refusal n t here e
+  right-record rest at t (answered f) e here later =
+      let j = decided (f .value .table) in
+      let u = counted (j .stage) (j .k) t in
+      table f e (right-line (f .value .table) (head-taken 1 s at f e) (t .records + 1))
+      (subst (λ (position : ℕ). RightLines s (f .next) (position + 1) (rest (f .next) u)) (counted-more (j .stage) (j .k) t) (later (f .next) u (head-forward 1 s at f e)))
+
+  -- or the last line, at the end
+  picked : (b : Bool) {at position : ℕ} (t : Tally) {lines : List ℕ} → ltb at (length s) ≡ b → (at < length s → RightLines s at position lines)
+      → RightLines s at position (pickBytes b lines (lastLine t))
+  picked true {at = at} t e lines = lines (ltb-true at (length s) e)
+  picked false {at = at} t e lines = last t (ltb-false at (length s) e)
+
+  -- as many records as there are bytes left reach the end
+  right-from : (left at : ℕ) (t : Tally) → length s ≤ left + at → RightLines s at (t .records + 1) (reportFrom left s at t)
+  unfolding reportFrom
+  right-from zero at t h = last {at = at} t (omega arith)
+  right-from (suc left) at t h =
+      picked (ltb at (length s)) t refl (λ here. right-record (reportFrom left s) at t (headAt 1 s at) refl here (λ next u forward. right-from left next u (omega arith)))
+
+  -- the report of an input that is not too long
+  right-lines : length s ≤ inputMost → RightLines s 0 1 (report s)
+  unfolding report
+  right-lines h =
+      subst (λ (b : Bool). RightLines s 0 1 (pickBytes b tooLongLine (reportFrom (length s) s 0 noTally))) (sym (le-ltb inputMost (length s) h)) (right-from (length s) 0 noTally (omega arith))
+
+-- ---- the records that the C interface hands back
+
+-- an answer came of an answer
+and-then : {A B : Type 0} (a : Answered A) (later : A → Answered B) (b : B) → andThen a later ≡ answered b → (x : A) × (a ≡ answered x) × (later x ≡ answered b)
+and-then (answered x) later b e = (x, refl, e)
+and-then (refused n) later b e = let z : _≡_ {A = ℕ} 0 1 = cc in absurd (omega arith)
+
+is-table : (x : Record) (t : Table) → tableIn x ≡ answered t → x ≡ ofTable t
+is-table (ofTable u) t e = cc
+is-table (ofGate u g) t e = let z : _≡_ {A = ℕ} 0 1 = cc in absurd (omega arith)
+is-table (ofWitness u w) t e = let z : _≡_ {A = ℕ} 0 1 = cc in absurd (omega arith)
+is-table (ofJob j) t e = let z : _≡_ {A = ℕ} 0 1 = cc in absurd (omega arith)
+
+is-job : (x : Record) (j : Job) → jobIn x ≡ answered j → x ≡ ofJob j
+is-job (ofTable t) j e = let z : _≡_ {A = ℕ} 0 1 = cc in absurd (omega arith)
+is-job (ofGate t g) j e = let z : _≡_ {A = ℕ} 0 1 = cc in absurd (omega arith)
+is-job (ofWitness t w) j e = let z : _≡_ {A = ℕ} 0 1 = cc in absurd (omega arith)
+is-job (ofJob i) j e = cc
+
+-- a table that was read keeps its format, since a record that was read keeps the rules of a writer
+read-taken : (s : List ℕ) → AllBytes s → (t : Table) → readRecord s ≡ answered (ofTable t) → Taken t
+read-taken s bytes t e =
+    let x = ofTable t in
+    table-kept t (answered-none-broken (recordRules x (tooShort (length s) (recordBytes x) ∷ [])) (recordBytes x) s (write-back s bytes x e (length s) (omega arith)) .0)
+
+-- what is handed back of a run is right
+right-handed : (t : Table) (j : Job) (b room : ℕ) (h : Handed) → j .table ≡ t → NoneBroken (jobRules (run b j) [])
+    → handedBack room j (run b j) ≡ answered h → RightHanded t j (run b j) h
+right-handed t j b room h e kept handed =
+    let m = run b j in
+    let (bytes, ew, eh) = and-then (outcomeWritten room m) _ h handed in
+    let written = answered-none-broken (tooShort room (recordBytes (outcome m)) ∷ []) (recordBytes (outcome m)) bytes ew .1 in
+    let back : RightHanded t j m (record { bytes = bytes; made = m .k - j .k }) = record {
+      bytes = subst (Right t m recordBytes) written (right-outcome m kept t recordBytes (run-table b j ∙ e));
+      made = omega (arith, run-grows j b);
+    } in
+    subst (RightHanded t j m) (cc) back
+
+module _ (s : List ℕ) (all : AllBytes s) where
+  right-decide : (room : ℕ) (h : Handed) → decide s room ≡ answered h
+      → (t : Table) × (readRecord s ≡ answered (ofTable t)) × RightHanded t (fresh t) (machineJob t) h
+  right-decide room h e =
+      let (t, et, handed) = and-then (tableRead s) _ h e in
+      let (x, ex, ei) = and-then (readRecord s) tableIn t et in
+      let read : readRecord s ≡ answered (ofTable t) = ex ∙ ap answered (is-table x t ei) in
+      (t, read, right-handed t (fresh t) callBudget room h (fresh-table t) (decided-kept t (read-taken s all t read)) handed)
+
+  right-carry-on : (budget room : ℕ) (h : Handed) → carriedOn s budget room ≡ answered h
+      → (j : Job) × (readRecord s ≡ answered (ofJob j)) × RightHanded (j .table) j (run budget j) h
+  unfolding carriedOn
+  right-carry-on budget room h e =
+      let (j, ej, ec) = and-then (jobRead s) _ h e in
+      let (x, ex, ei) = and-then (readRecord s) jobIn j ej in
+      let (next, en, handed) = and-then (carryOn j budget) _ h ec in
+      let same = carried-on j next budget en in
+      let kept = subst (λ (i : Job). NoneBroken (jobRules i [])) same (carried-kept j next budget en) in
+      (j, ex ∙ ap answered (is-job x j ei), right-handed (j .table) j budget room h refl kept (ap (handedBack room j) (sym same) ∙ handed))
+
+  -- what is decided of any bytes is right
+  pub decided-is-right : DecidedIsRight s
+  decided-is-right = record { line = right-line; lines = right-lines s; decides = right-decide; carries-on = right-carry-on }

@@ -1,0 +1,95 @@
+-- Demand 2, of what a user meets: the report, and the records that decide and carry-on of the C interface hand back. Statements alone; each
+-- cites the definitions that the contracts cite. Assumes nothing.
+use mathlib.Core.Path.{_≡_}
+use mathlib.Core.Bool.{true}
+use mathlib.Core.List.{List, [], _++_}
+use Prim.Native.Nat.{ℕ, _+_, _≤_, _<_}
+use lib.IntN.{ℤ}
+use lib.ListN.{length}
+use Rattle.types.specs.declared.table.Table.{Table}
+use Rattle.types.specs.declared.gate.Gate.{Gate}
+use Rattle.types.specs.declared.witness.Witness.{Witness}
+use Rattle.types.specs.declared.stage.Stage.the-variants.{Open}
+use Rattle.table.specs.Gate.{Realises}
+use Rattle.table.specs.Witness.{countOf, Balances}
+use Rattle.cell.specs.Refusal.{answered, refused}
+use Rattle.cell.specs.Calls.{checkGate, checkWitness}
+use Rattle.job.specs.declared.job.Job.{Job}
+use Rattle.job.specs.Machine.{run, fresh}
+use Rattle.job.specs.Calls.{callBudget}
+use Rattle.codec.specs.Field.{Field}
+use Rattle.codec.specs.Head.{Head, headAt}
+use Rattle.records.specs.Record.{Record, ofTable, ofGate, ofWitness, ofJob, recordBytes, readRecord}
+use Rattle.reporting.specs.declared.tally.Tally.{Tally}
+use Rattle.reporting.specs.Text.{decimal, spaced, lineFeed}
+use Rattle.reporting.specs.Lines.{gateText, witnessText, openText, recordLine, refusalLine, lastLine}
+use Rattle.reporting.specs.Report.{inputMost, decided, report}
+use Rattle.threshold.specs.Result.{Handed}
+use Rattle.threshold.specs.Interface.{decide, carriedOn}
+use Rattle.claims.specs.Jobs.{Taken}
+
+-- ---- a right outcome
+
+-- a gate that has the table's value on every row, and that the checker accepts
+pub record RightGate (t : Table) (g : Gate) : Type 0 where
+  pub realises : Realises (g .weights) (g .threshold) t
+  pub accepted : checkGate t g ≡ answered true
+
+-- a witness that balances, and that the checker accepts; then no integer weights and T of any size realise the table
+pub record RightWitness (t : Table) (w : Witness) : Type 0 where
+  pub balances : Balances t (countOf (w .counts))
+  pub accepted : checkWitness t w ≡ answered true
+  pub no-gate : (ws : List ℤ) (th : ℤ) → ¬ Realises ws th t
+
+-- what bytes show of a table that the machine has brought to the job m, in a form of records: a right gate, a right witness, or m itself,
+-- given up so far, if it is open
+pub data Right (t : Table) (m : Job) (form : Record → List ℕ) : List ℕ → Type 0 where
+  gate : (g : Gate) → RightGate t g → Right t m form (form (ofGate t g))
+  witness : (w : Witness) → RightWitness t w → Right t m form (form (ofWitness t w))
+  given-up : m .stage ≡ Open → Right t m form (form (ofJob m))
+
+-- the machine's job of a table after one carry-on of 100,000
+abbrev pub machineJob : Table → Job
+machineJob t = run callBudget (fresh t)
+
+-- ---- in a report
+
+-- G, N or S with K, by the kind of what is shown; a table alone is never shown
+abbrev pub outcomeText : ℕ → Record → List ℕ
+outcomeText k (ofTable t) = []
+outcomeText k (ofGate t g) = gateText k g
+outcomeText k (ofWitness t w) = witnessText k t (w .counts)
+outcomeText k (ofJob j) = openText k
+
+-- the line of a table: position, n, and the outcome with the machine's K
+abbrev pub outcomeLine : ℕ → Table → ℕ → Record → List ℕ
+outcomeLine position t k x = decimal position ++ (spaced (decimal (t .n)) ++ (outcomeText k x ++ lineFeed))
+
+-- a line that is right for the table
+abbrev pub RightLine : ℕ → Table → List ℕ → Type 0
+RightLine position t = Right t (machineJob t) (outcomeLine position t (machineJob t .k))
+
+-- the lines of an input from one of its bytes on: of each table that is read a right line, until a refusal or the end, and the last line
+pub data RightLines (s : List ℕ) : (at position : ℕ) → List ℕ → Type 0 where
+  table : {at position : ℕ} {line rest : List ℕ} (f : Field Head) → headAt 1 s at ≡ answered f → RightLine position (f .value .table) line
+      → RightLines s (f .next) (position + 1) rest → RightLines s at position (line ++ rest)
+  refusal : {at position : ℕ} (n : ℕ) (t : Tally) → at < length s → headAt 1 s at ≡ refused n → RightLines s at position (refusalLine position n ++ lastLine t)
+  last : {at position : ℕ} (t : Tally) → length s ≤ at → RightLines s at position (lastLine t)
+
+-- ---- in what the C interface hands back
+
+-- of a call that brought the table's machine from one job to the next: the bytes of a right record, and what K grew by
+pub record RightHanded (t : Table) (before next : Job) (h : Handed) : Type 0 where
+  pub bytes : Right t next recordBytes (h .bytes)
+  pub made : h .made + before .k ≡ next .k
+
+-- ---- the claim
+
+-- Of any bytes: every table that no rule refuses gets a right line, and a report of the bytes is such lines. What decide hands back of them
+-- is right for the table that they are, and what carry-on hands back is right for the table of the job that they are
+pub record DecidedIsRight (s : List ℕ) : Type 0 where
+  pub line : (t : Table) → Taken t → (position : ℕ) → RightLine position t (recordLine position (decided t))
+  pub lines : length s ≤ inputMost → RightLines s 0 1 (report s)
+  pub decides : (room : ℕ) (h : Handed) → decide s room ≡ answered h → (t : Table) × (readRecord s ≡ answered (ofTable t)) × RightHanded t (fresh t) (machineJob t) h
+  pub carries-on : (budget room : ℕ) (h : Handed) → carriedOn s budget room ≡ answered h
+      → (j : Job) × (readRecord s ≡ answered (ofJob j)) × RightHanded (j .table) j (run budget j) h

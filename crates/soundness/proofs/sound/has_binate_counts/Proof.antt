@@ -1,0 +1,57 @@
+-- `sound::has_binate_counts` meets its contract, by what the search for a binate input has found. Assumes nothing.
+use mathlib.Core.Path.{_≡_, sym, _∙_, ap}
+use mathlib.Core.Option.{Option, some}
+use Prim.Native.Nat.{ℕ}
+use Rattle.machine.proofs.BinateLaws.{binate-place-lt}
+use Rattle.table.specs.Witness.{sameCounts}
+use Rattle.table.proofs.InputLaws.{found-some, found-none}
+use Rattle.machine.specs.Binate.{binatePlace}
+use Rattle.state.specs.Sound.{isBinateWith}
+use borrow.Author.Needs.{needs}
+use Rattle.soundness.proofs.sound.has_binate_counts.Statement.{statement}
+use Rattle.soundness.proofs.sound.has_binate_counts.Tie as tie
+
+binate-place-requires : tie.Need-binate-place-requires
+binate-place-requires c κs = search needs
+
+enum-known-place : tie.Need-enum-known-place
+enum-known-place c = search needs
+
+enum-told : tie.Need-enum-told
+enum-told c = search needs
+
+returns : tie.Need-returns
+returns c =
+    let answer = c .before .before in
+    let a = answer .before .args in
+    ap (λ (o : Option ℕ). isBinateWith (a .table) o (a .state)) (sym (found-none (binatePlace (a .table)) (sym (answer .binate-place .ensures) ∙ c .enum-told .given .1)))
+
+-- the place that the search has found
+place-is : (c : tie.After-known-told) → binatePlace (c .before .before .before .before .args .table) ≡ some (c .before .place .given .0 .0)
+place-is c = found-some _ _ (sym (c .before .before .before .binate-place .ensures) ∙ c .before .place .given .1)
+
+binate-counts-requires : tie.Need-binate-counts-requires
+binate-counts-requires c κs = (search needs, binate-place-lt _ _ (place-is (c .before)))
+
+same-counts-requires : tie.Need-same-counts-requires
+same-counts-requires c κs = search needs
+
+returns-2 : tie.Need-returns-2
+returns-2 c =
+    let known = c .before .before .before in
+    let a = known .before .before .before .before .args in
+    c .same-counts .ensures
+    ∙ ap (sameCounts (a .state .counts)) (c .before .binate-counts .ensures)
+    ∙ ap (λ (o : Option ℕ). isBinateWith (a .table) o (a .state)) (sym (place-is known))
+
+pub has-binate-counts-spec : {M : Type 1} → statement M
+has-binate-counts-spec =
+    tie.close
+    (tie.spec
+    binate-place-requires
+    enum-known-place
+    enum-told
+    returns
+    binate-counts-requires
+    same-counts-requires
+    returns-2)

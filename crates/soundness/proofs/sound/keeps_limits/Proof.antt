@@ -1,0 +1,67 @@
+-- `sound::keeps_limits` meets its contract: the tests, one after the other. Assumes nothing.
+use mathlib.Core.Path.{sym, _∙_, ap}
+use Prim.Native.Nat.{ℕ}
+use native.Mathlib.Omega.{arith}
+use lib.ListN.{drop}
+use borrow.Author.Needs.{needs}
+use borrow.Author.Tests.{le-leb, lt-leb, not-true, not-false}
+use Rattle.numbers.specs.Tests.{allAtMost}
+use Rattle.table.proofs.TableLaws.{rows-le}
+use Rattle.soundness.proofs.sound.keeps_limits.Statement.{statement}
+use Rattle.soundness.proofs.sound.keeps_limits.Tie as tie
+
+returns : tie.Need-returns
+returns c = rw (lt-leb _ _ (c .if1 .taken))
+
+vector-within-requires : tie.Need-vector-within-requires
+vector-within-requires c κs = search needs
+
+returns-2 : tie.Need-returns-2
+returns-2 c =
+    let capped = c .before .before in
+    rw (le-leb _ _ (capped .if1 .left), sym (c .before .vector-within .ensures) ∙ not-true _ (c .if2 .taken))
+
+vector-within-requires-2 : tie.Need-vector-within-requires-2
+vector-within-requires-2 c κs = search needs
+
+returns-3 : tie.Need-returns-3
+returns-3 c =
+    let current = c .before .before in
+    let capped = current .before .before in
+    rw (
+      le-leb _ _ (capped .if1 .left),
+      sym (current .before .vector-within .ensures) ∙ not-false _ (current .if2 .left),
+      sym (c .before .vector-within2 .ensures) ∙ not-true _ (c .if3 .taken),
+    )
+
+row-count-requires : tie.Need-row-count-requires
+row-count-requires c κs = search needs
+
+counts-within-requires : tie.Need-counts-within-requires
+counts-within-requires c κs = omega (arith, c .row-count .ensures, rows-le (c .before .before .before .before .before .before .before .pre))
+
+returns-4 : tie.Need-returns-4
+returns-4 c =
+    let copied = c .before .before .before in
+    let current = copied .before .before in
+    let capped = current .before .before in
+    let counts = capped .before .args .state .counts in
+    rw (
+      le-leb _ _ (capped .if1 .left),
+      sym (current .before .vector-within .ensures) ∙ not-false _ (current .if2 .left),
+      sym (copied .before .vector-within2 .ensures) ∙ not-false _ (copied .if3 .left),
+    )
+    (c .counts-within .ensures ∙ ap (λ (rows : ℕ). allAtMost 0 (drop rows counts)) (c .before .row-count .ensures))
+
+pub keeps-limits-spec : {M : Type 1} → statement M
+keeps-limits-spec =
+    tie.close
+    (tie.spec
+    returns
+    vector-within-requires
+    returns-2
+    vector-within-requires-2
+    returns-3
+    row-count-requires
+    counts-within-requires
+    returns-4)

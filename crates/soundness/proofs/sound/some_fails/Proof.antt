@@ -1,0 +1,33 @@
+-- `sound::some_fails` meets its contract: a vector within ±K is in the range of the search, which finds a row exactly if one fails.
+-- Assumes nothing.
+use mathlib.Core.Path.{_∙_, ap}
+use borrow.Author.Needs.{needs}
+use Rattle.table.specs.Inputs.{isRow}
+use Rattle.table.proofs.InputLaws.{is-row-found}
+use Rattle.machine.specs.Failing.{failing}
+use Rattle.state.proofs.SoundBounds.{in-range-search}
+use Rattle.soundness.proofs.sound.some_fails.Statement.{statement}
+use Rattle.soundness.proofs.sound.some_fails.Tie as tie
+
+row-values-requires : tie.Need-row-values-requires
+row-values-requires c κs = search needs
+
+first-failing-requires : tie.Need-first-failing-requires
+first-failing-requires c κs =
+    let valued = c .before .before in
+    let start = valued .before in
+    let n = start .args .table .n in
+    let x = start .args .state in
+    (start .pre .0, in-range-search (x .k) n (x .v .a) (x .v .b) (start .pre .1) (start .pre .2), valued .row-values .ensures)
+
+is-row-requires : tie.Need-is-row-requires
+is-row-requires c κs = search needs
+
+returns : tie.Need-returns
+returns c =
+    let a = c .before .before .before .before .before .args in
+    c .is-row .ensures ∙ ap isRow (c .before .first-failing .ensures) ∙ is-row-found (failing (a .table) (a .state .v))
+
+pub some-fails-spec : {M : Type 1} → statement M
+some-fails-spec =
+    tie.close (tie.spec row-values-requires first-failing-requires is-row-requires returns)

@@ -1,0 +1,105 @@
+-- A sound job (document 01, "A sound job"): what it says of a table and a state, and the test that code computes. `is-sound-correct` of
+-- proofs/ joins the two. Definitions only. Assumes nothing.
+use mathlib.Core.Path.{_≡_}
+use mathlib.Core.Bool.{Bool, true, false, not, _&&_, _||_}
+use mathlib.Core.Option.{Option, some, none}
+use Prim.Native.Nat.{ℕ, suc, _+_, _-_, _≤_}
+use lib.Dec.{leb, eqb}
+use lib.ListN.{length, drop}
+use lib.IntN.{pos, _+ℤ_}
+use Rattle.numbers.specs.Tests.{allAtMost, allBelow, isSome}
+use Rattle.types.specs.declared.table.Table.{Table}
+use Rattle.types.specs.declared.vector.Vector.{Vector}
+use Rattle.types.specs.declared.stage.Stage.{Stage}
+use Rattle.types.specs.declared.stage.Stage.the-variants.{Open, Found, Looped, Binate}
+use Rattle.types.specs.declared.state.State.{State}
+use Rattle.table.specs.Table.{rows}
+use Rattle.table.specs.Gate.{inRange}
+use Rattle.table.specs.Witness.{sideSum, countOf, sameCounts}
+use Rattle.machine.specs.Failing.{failing}
+use Rattle.machine.specs.Vector.{sameZ, sameVector, zeroVector, component}
+use Rattle.machine.specs.Power.{highest}
+use Rattle.machine.specs.Binate.{binatePlace, binateCounts}
+
+-- the most corrections of a job
+abbrev pub cap : ℕ
+cap = 1000000
+
+-- ---- the parts of a sound job
+
+-- the arrays have the lengths of the code's types: eight weights, and a count for each of 256 rows
+pub record Shaped (x : State) : Type 0 where
+  pub weights : length (x .v .a) ≡ 8
+  pub copied : length (x .s .a) ≡ 8
+  pub counts : length (x .counts) ≡ 256
+
+-- the components of a vector are within ±k, and the places past n are 0
+abbrev pub Ranged : ℕ → ℕ → Vector → Type 0
+Ranged k n v = inRange k n (v .a) (v .b) ≡ true
+
+-- M: 0 if K is 0, else the highest power of two not above K; in stage looped the highest power below K
+abbrev pub markFor : Stage → ℕ → ℕ
+markFor Open k = highest k
+markFor Found k = highest k
+markFor Looped k = highest (k - 1)
+markFor Binate k = highest k
+
+-- the counts add up to K − M, and v is s plus each row's correction times its count: true rows add their levels, false rows take
+-- theirs away
+pub record Traced (t : Table) (x : State) : Type 0 where
+  pub total : sideSum t true (countOf (x .counts)) 0 + sideSum t false (countOf (x .counts)) 0 + x .mark ≡ x .k
+  pub sum : (i : ℕ) → i ≤ t .n
+      → component (x .v) i +ℤ pos (sideSum t false (countOf (x .counts)) i) ≡ component (x .s) i +ℤ pos (sideSum t true (countOf (x .counts)) i)
+
+abbrev pub NotBinate : Table → Type 0
+NotBinate t = binatePlace t ≡ none
+
+-- what each stage asks besides
+abbrev pub SoundIn : Table → Stage → State → Type 0
+SoundIn t Open x = Traced t x × NotBinate t × ((r : ℕ) × (failing t (x .v) ≡ some r)) × (x .v ≡ x .s → allAtMost 0 (x .counts) ≡ true)
+SoundIn t Found x = Traced t x × NotBinate t × (failing t (x .v) ≡ none)
+SoundIn t Looped x = Traced t x × NotBinate t × (2 ≤ x .k) × (x .v ≡ x .s)
+SoundIn t Binate x =
+    (x .k ≡ 0) × (x .v ≡ zeroVector) × (x .s ≡ zeroVector) × ((place : ℕ) × (binatePlace t ≡ some place) × (x .counts ≡ binateCounts t place))
+
+-- a sound job: the parts that every stage has, and what its own stage asks
+pub record Sound (t : Table) (x : State) : Type 0 where
+  pub shaped : Shaped x
+  pub capped : x .k ≤ cap
+  pub current : Ranged (x .k) (t .n) (x .v)
+  pub copied : Ranged (x .k) (t .n) (x .s)
+  pub past : allAtMost 0 (drop (rows t) (x .counts)) ≡ true
+  pub mark : x .mark ≡ markFor (x .stage) (x .k)
+  pub staged : SoundIn t (x .stage) x
+
+-- ---- the test, part by part
+
+unfoldable pub isTraced : Table → State → Bool
+isTraced t x =
+    eqb (sideSum t true (countOf (x .counts)) 0 + sideSum t false (countOf (x .counts)) 0 + x .mark) (x .k)
+    && allBelow (suc (t .n))
+    (λ i. sameZ (component (x .v) i +ℤ pos (sideSum t false (countOf (x .counts)) i)) (component (x .s) i +ℤ pos (sideSum t true (countOf (x .counts)) i)))
+
+abbrev pub isBinateWith : Table → Option ℕ → State → Bool
+isBinateWith t none x = false
+isBinateWith t (some place) x = sameCounts (x .counts) (binateCounts t place)
+
+unfoldable pub soundIn : Table → Stage → State → Bool
+soundIn t Open x =
+    isTraced t x && not (isSome (binatePlace t)) && isSome (failing t (x .v)) && (not (sameVector (x .v) (x .s)) || allAtMost 0 (x .counts))
+soundIn t Found x = isTraced t x && not (isSome (binatePlace t)) && not (isSome (failing t (x .v)))
+soundIn t Looped x = isTraced t x && not (isSome (binatePlace t)) && leb 2 (x .k) && sameVector (x .v) (x .s)
+soundIn t Binate x = eqb (x .k) 0 && sameVector (x .v) zeroVector && sameVector (x .s) zeroVector && isBinateWith t (binatePlace t) x
+
+abbrev pub isShaped : State → Bool
+isShaped x = eqb (length (x .v .a)) 8 && eqb (length (x .s .a)) 8 && eqb (length (x .counts)) 256
+
+unfoldable pub isSound : Table → State → Bool
+isSound t x =
+    isShaped x
+    && leb (x .k) cap
+    && inRange (x .k) (t .n) (x .v .a) (x .v .b)
+    && inRange (x .k) (t .n) (x .s .a) (x .s .b)
+    && allAtMost 0 (drop (rows t) (x .counts))
+    && eqb (x .mark) (markFor (x .stage) (x .k))
+    && soundIn t (x .stage) x

@@ -1,0 +1,254 @@
+-- `stepping::stepping::plain_steps` meets its contract. The loop's invariant: its state stands where the machine does after `made` steps
+-- (`Stands` of StandsLaws), `next` is what the search by its vector found, and `made` is at most the budget. The measure is what is
+-- left of the budget. Assumes nothing.
+use mathlib.Core.Path.{_≡_, sym, _∙_, ap}
+use mathlib.Core.Logic.{⊎-elim}
+use mathlib.Core.Bool.{Bool, false}
+use mathlib.Core.List.{List}
+use Prim.Native.Nat.{ℕ, _+_, _-_, _≤_, _<_}
+use native.Mathlib.Omega.{arith}
+use lib.ListN.{getD}
+use borrow.Author.Needs.{needs}
+use borrow.Author.Tests.{eq-eqb, ne-eqb}
+use Rattle.numbers.proofs.TabulateLaws.{getD-tabulate}
+use Rattle.table.specs.declared.inputs.Found.{Found}
+use Rattle.table.specs.declared.inputs.Found.the-variants.{Row}
+use Rattle.table.specs.Table.{value}
+use Rattle.table.specs.Inputs.{found}
+use Rattle.table.proofs.TableLaws.{rows-le}
+use Rattle.machine.specs.Failing.{failing}
+use Rattle.types.specs.declared.table.Table.{Table}
+use Rattle.types.specs.declared.state.State.{State}
+use Rattle.state.specs.Machine.{run}
+use Rattle.state.specs.Sound.{cap}
+use Rattle.state.proofs.MachineLaws.{marked-power, marked-other}
+use Rattle.state.proofs.StandsLaws.{Stands, stands-start, stands-found, stands-row, stands-open, stands-looped, moved, stands-next, Bounded, stands-bounded}
+use Rattle.stepping.proofs.stepping.plain_steps.Statement.{statement}
+use Rattle.stepping.proofs.stepping.plain_steps.Tie as tie
+
+-- the invariant: `made` of the budget's steps are made from `start`
+record Turned (t : Table) (start : State) (budget made : ℕ) (x : State) (next : Found) : Type 0 where
+  stands : Stands t start made x
+  search : next ≡ found (failing t (x .v))
+  within : made ≤ budget
+
+abbrev Inv-loop : tie.InvT-loop
+Inv-loop table budget values distances₀ j₀ next₀ made₀ distances j next made = Turned table j₀ budget made j next
+
+abbrev μ-loop : tie.MeasureT-loop
+μ-loop table budget values distances₀ j₀ next₀ made₀ distances j next made = budget - made
+
+-- ---- before the loop
+
+row-values-requires : tie.Need-row-values-requires Inv-loop μ-loop
+row-values-requires c κs = search needs
+
+first-failing-requires : tie.Need-first-failing-requires Inv-loop μ-loop
+first-failing-requires c κs =
+    let listed = c .before .before .before in
+    let p = listed .before .pre in
+    (p .0, stands-bounded (p .0) (p .1) (omega arith) (stands-start (p .1) (p .2)) .ranged, listed .row-values .ensures)
+
+loop-holds : tie.Need-loop-holds Inv-loop μ-loop
+loop-holds c =
+    let p = c .before .before .before .before .before .pre in
+    record { stands = stands-start (p .1) (p .2); search = c .first-failing .ensures; within = omega arith }
+
+-- ---- at the loop's head
+
+-- where the values of the rows were listed, and where the function began
+abbrev listed : tie.At-loop Inv-loop μ-loop → tie.After-row-values Inv-loop μ-loop
+listed c = c .before .before .before .before .before
+
+abbrev entry : tie.At-loop Inv-loop μ-loop → tie.Start Inv-loop μ-loop
+entry c = listed c .before
+
+abbrev table : tie.At-loop Inv-loop μ-loop → Table
+table c = entry c .args .table
+
+abbrev state : tie.At-loop Inv-loop μ-loop → State
+state c = entry c .args .state
+
+-- no number of the loop's state wraps in a step
+bounded : (c : tie.At-loop Inv-loop μ-loop) → Bounded (table c) (c .loop .j)
+bounded c =
+    let p = entry c .pre in
+    let few : state c .k + c .loop .made ≤ cap = omega (arith, p .3, c .loop .inv .within) in
+    stands-bounded (p .0) (p .1) few (c .loop .inv .stands)
+
+enum-known-next : tie.Need-enum-known-next Inv-loop μ-loop
+enum-known-next c = search needs
+
+enum-told : tie.Need-enum-told Inv-loop μ-loop
+enum-told c = search needs
+
+with-stage-requires : tie.Need-with-stage-requires Inv-loop μ-loop
+with-stage-requires c κs = search needs
+
+returns : tie.Need-returns Inv-loop μ-loop
+returns c =
+    let inv = c .before .before .before .before .loop .inv in
+    c .with-stage .ensures ∙ stands-found (inv .stands) _ (inv .within) (sym (inv .search) ∙ c .before .enum-told .given .1)
+
+-- ---- the row of a turn
+
+abbrev head : tie.After-known-told Inv-loop μ-loop → tie.At-loop Inv-loop μ-loop
+head c = c .before .before .before .before
+
+abbrev row : tie.After-known-told Inv-loop μ-loop → ℕ
+row c = c .before .next .given .0 .0
+
+row-found : (c : tie.After-known-told Inv-loop μ-loop) → found (failing (table (head c)) (head c .loop .j .v)) ≡ Row (row c)
+row-found c = sym (head c .loop .inv .search) ∙ c .before .next .given .1
+
+-- it is one of the 256
+row-below : (c : tie.After-known-told Inv-loop μ-loop) → row c < 256
+row-below c = omega (arith, stands-row (head c .loop .inv .stands) (row-found c), rows-le (entry (head c) .pre .0))
+
+-- `values` has its value
+row-value : (c : tie.After-known-told Inv-loop μ-loop) → getD (listed (head c) .row-values .result) (row c) false ≡ value (table (head c)) (row c)
+row-value c =
+    ap (λ (l : List Bool). getD l (row c) false) (listed (head c) .row-values .ensures)
+    ∙ getD-tabulate (value (table (head c))) 256 (row c) false (row-below c)
+
+-- ---- the correction
+
+array-read-corrected-by : tie.Need-array-read-corrected-by Inv-loop μ-loop
+array-read-corrected-by c = row-below (c .before)
+
+corrected-by-requires : tie.Need-corrected-by-requires Inv-loop μ-loop
+corrected-by-requires c κs = (row-below (c .before), bounded (head (c .before)) .ranged)
+
+add-j : tie.Need-add-j Inv-loop μ-loop
+add-j c = omega (arith, bounded (head (c .before .before)) .capped)
+
+mul-j : tie.Need-mul-j Inv-loop μ-loop
+mul-j c = omega (arith, row-below (c .before .before))
+
+element-copy-out-j : tie.Need-element-copy-out-j Inv-loop μ-loop
+element-copy-out-j c = row-below (c .before .before)
+
+add-j-2 : tie.Need-add-j-2 Inv-loop μ-loop
+add-j-2 c = let at = c .before .before .before in omega (arith, bounded (head at) .count (row at))
+
+mul-j-2 : tie.Need-mul-j-2 Inv-loop μ-loop
+mul-j-2 c = omega (arith, row-below (c .before .before .before))
+
+element-write-j : tie.Need-element-write-j Inv-loop μ-loop
+element-write-j c = row-below (c .before .before .before)
+
+-- ---- what follows it
+
+same-vector-requires : tie.Need-same-vector-requires Inv-loop μ-loop
+same-vector-requires c κs = search needs
+
+-- the turn's row and its correction, from there
+abbrev told : tie.After-same-vector Inv-loop μ-loop → tie.After-known-told Inv-loop μ-loop
+told c = c .before .before .before .before .before
+
+abbrev corrected : tie.After-same-vector Inv-loop μ-loop → tie.After-corrected-by Inv-loop μ-loop
+corrected c = c .before .before .before
+
+with-stage-requires-2 : tie.Need-with-stage-requires-2 Inv-loop μ-loop
+with-stage-requires-2 c κs = search needs
+
+returns-2 : tie.Need-returns-2 Inv-loop μ-loop
+returns-2 c =
+    let same = c .before .before in
+    let at = told same in
+    let more = at .before .before .before .loop-test .taken in
+    c .with-stage2 .ensures
+    ∙ stands-looped (head at .loop .inv .stands) (row-found at) (row-value at) (corrected same .corrected-by .ensures) _ more
+    (sym (same .same-vector .ensures) ∙ c .before .if1 .taken)
+
+top-power-requires : tie.Need-top-power-requires Inv-loop μ-loop
+top-power-requires c κs = search needs
+
+-- past step 4 the state stands at the next step
+stands-on : (c : tie.Joined2 Inv-loop μ-loop)
+    → let at = head (told (c .before .before .before)) in
+    Stands (table at) (state at) (at .loop .made + 1) (c .if2 .j)
+stands-on c =
+    let same = c .before .before .before in
+    let at = told same in
+    let x = moved (row at) (corrected same .corrected-by .result) (head at .loop .j) in
+    let power = c .before .top-power .ensures in
+    stands-next (head at .loop .inv .stands) (row-found at) (row-value at) (corrected same .corrected-by .ensures)
+    (sym (same .same-vector .ensures) ∙ c .before .before .if1 .left)
+    (⊎-elim (λ w. w .2 ∙ sym (marked-power x (eq-eqb _ _ (sym power ∙ w .0 .taken))))
+    (λ w. w .1 ∙ sym (marked-other x (ne-eqb _ _ (λ e. w .0 .left (power ∙ e)))))
+    (c .if2 .came))
+
+first-failing-requires-2 : tie.Need-first-failing-requires-2 Inv-loop μ-loop
+first-failing-requires-2 c κs =
+    let on = c .before .before .before in
+    let at = told (on .before .before .before) in
+    let p = entry (head at) .pre in
+    let few : state (head at) .k + (head at .loop .made + 1) ≤ cap = omega (arith, p .3, at .before .before .before .loop-test .taken) in
+    (p .0, stands-bounded (p .0) (p .1) few (stands-on on) .ranged, listed (head at) .row-values .ensures)
+
+add-made : tie.Need-add-made Inv-loop μ-loop
+add-made c = omega arith
+
+loop-less : tie.Need-loop-less Inv-loop μ-loop
+loop-less c = omega arith
+
+loop-again : tie.Need-loop-again Inv-loop μ-loop
+loop-again c = record { stands = stands-on (c .before .before .before .before); search = c .first-failing2 .ensures; within = omega arith }
+
+-- ---- after the loop
+
+enum-told-2 : tie.Need-enum-told-2 Inv-loop μ-loop
+enum-told-2 c = search needs
+
+enum-told-3 : tie.Need-enum-told-3 Inv-loop μ-loop
+enum-told-3 c = search needs
+
+with-stage-requires-3 : tie.Need-with-stage-requires-3 Inv-loop μ-loop
+with-stage-requires-3 c κs = search needs
+
+returns-3 : tie.Need-returns-3 Inv-loop μ-loop
+returns-3 c =
+    let at = c .before .before .before in
+    let inv = at .loop .inv in
+    stands-open (inv .stands) (sym (inv .search) ∙ c .enum-told2 .given .1) ∙ ap (λ (m : ℕ). run (table at) m (state at)) (omega arith)
+
+returns-4 : tie.Need-returns-4 Inv-loop μ-loop
+returns-4 c =
+    let inv = c .before .before .before .before .loop .inv in
+    c .with-stage3 .ensures ∙ stands-found (inv .stands) _ (inv .within) (sym (inv .search) ∙ c .before .enum-told3 .given .1)
+
+pub plain-steps-spec : {M : Type 1} → statement M
+plain-steps-spec =
+    tie.close
+    (tie.spec
+    Inv-loop
+    μ-loop
+    row-values-requires
+    first-failing-requires
+    loop-holds
+    enum-known-next
+    enum-told
+    with-stage-requires
+    returns
+    array-read-corrected-by
+    corrected-by-requires
+    add-j
+    mul-j
+    element-copy-out-j
+    add-j-2
+    mul-j-2
+    element-write-j
+    same-vector-requires
+    with-stage-requires-2
+    returns-2
+    top-power-requires
+    first-failing-requires-2
+    add-made
+    loop-less
+    loop-again
+    enum-told-2
+    enum-told-3
+    with-stage-requires-3
+    returns-3
+    returns-4)

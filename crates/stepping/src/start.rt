@@ -1,0 +1,37 @@
+// The state that a table starts with.
+use machine::binate::binate_counts;
+use machine::binate::binate_place;
+use table::inputs::Found;
+use types::stage::Stage;
+use types::state::State;
+use types::table::Table;
+use types::vector::Vector;
+ghost use mathlib.Core.Path.{_≡_};
+ghost use Prim.Native.Nat.{_≤_};
+ghost use Rattle.state.specs.Machine.{startState, fresh};
+
+// Returns the state with all numbers 0 but the counts.
+pub fn start_state(counts: [u32; 256], stage: Stage) -> State
+    ensures { λ r. ⌜ r ≡ startState counts stage ⌝ }
+{
+    let zero = Vector { a: [0i32; 8], b: 0 };
+    State {
+        k: 0,
+        v: zero,
+        mark: 0,
+        s: zero,
+        counts,
+        stage,
+    }
+}
+
+// Returns the fresh state of a table: open, or binate with the counts that show it.
+pub fn fresh_state(table: Table) -> State
+    requires { ⌜ table .n ≤ 8 ⌝ }
+    ensures { λ r. ⌜ r ≡ fresh table ⌝ }
+{
+    let Found::Row(place) = binate_place(table) else {
+        return start_state([0u32; 256], Stage::Open);
+    };
+    start_state(binate_counts(table, place), Stage::Binate)
+}
