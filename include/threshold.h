@@ -56,7 +56,7 @@ enum {
     THRESHOLD_REFUSED_BYTES_LEFT = 6,    /* bytes after the record */
     THRESHOLD_REFUSED_GATE = 7,          /* a weight or T beyond 1,000,000 either way */
     THRESHOLD_REFUSED_ROW_LIST = 8,      /* a row list empty, too long or not rising, a row past the table, or a count out of range */
-    THRESHOLD_REFUSED_UNSOUND = 9,       /* a job that is not sound */
+    THRESHOLD_REFUSED_UNSOUND = 9,       /* a job that is not sound, or whose row list breaks its rules */
     THRESHOLD_REFUSED_BUDGET = 10,       /* a budget of 0, or above THRESHOLD_CALL_BUDGET */
     THRESHOLD_REFUSED_CAP = 11,          /* the job's corrections with the budget above THRESHOLD_CAP */
     THRESHOLD_REFUSED_ROOM = 12,         /* the answer longer than the room */

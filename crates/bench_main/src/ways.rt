@@ -2,12 +2,12 @@
 // in calls of 64 with the job saved and read back after each that leaves it open.
 use job::job::Job;
 use records::reader::read;
-use records::write::Written;
-use records::write::save;
 use samples::parts::first_bytes;
 use std::num::wrapping_add_u64;
 use types::stage::Stage;
 use types::table::Table;
+use writers::write::Written;
+use writers::write::save;
 ghost use Prim.Native.Nat.{_≤_, _<_};
 
 // The number of the last way.

@@ -10,11 +10,13 @@ use Rattle.types.specs.declared.gate.Gate.{Gate}
 use Rattle.types.specs.declared.witness.Witness.{Witness}
 use Rattle.types.specs.declared.inputs.Place.{Place}
 use Rattle.table.specs.Table.{inputLimit, rowsOf, value, spareSet}
-use Rattle.table.specs.Gate.{gateTrue, realises, beyond}
+use Rattle.table.specs.Gate.{realises, beyond}
+use Rattle.function.specs.Gate.{gateTrue}
 use Rattle.table.specs.Witness.{balances, unfit}
 use Rattle.table.specs.Inputs.{kindsOf}
 use Rattle.table.specs.Chow.{chowOf}
 use Rattle.cell.specs.Refusal.{Rule, rule, Answered, answered, checked}
+use Rattle.function.specs.Function.{level}
 
 -- 2: n above 8
 abbrev pub tooManyInputs : ℕ → Rule
@@ -60,7 +62,7 @@ abbrev pub gateValueRules : Gate → ℕ → List Rule
 gateValueRules g r = tooManyInputs (g .n) ∷ gateRange g ∷ pastRows (g .n) r ∷ []
 
 abbrev pub gateValue : Gate → ℕ → Answered Bool
-gateValue g r = checked (gateValueRules g r) (answered (gateTrue (g .weights) (g .threshold) r))
+gateValue g r = checked (gateValueRules g r) (answered (gateTrue (g .weights) (g .threshold) (level 2 r)))
 
 -- the checker on a table with a gate: 2, 3, 7. The two reasons for 2 come before 3, in either order
 abbrev pub checkGateRules : Table → Gate → List Rule

@@ -12,18 +12,18 @@ use lib.ListN.{length, getD}
 use lib.IntN.{ℤ, pos}
 use Rattle.numbers.proofs.TabulateLaws.{filled}
 use Rattle.types.specs.declared.table.Table.{Table}
-use Rattle.table.specs.Table.{rows, value}
-use Rattle.table.specs.Gate.{inRange}
+use Rattle.table.specs.Table.{rows, value, functionOf}
 use Rattle.table.specs.Inputs.{found}
 use Rattle.table.proofs.TableLaws.{rows-le}
 use Rattle.types.specs.declared.vector.Vector.{Vector}
-use Rattle.machine.specs.Failing.{failing}
-use Rattle.machine.specs.Vector.{correctedBy, sameVector}
-use Rattle.machine.specs.Binate.{zeros, oneMore}
+use Rattle.function.specs.Failing.{failing}
+use Rattle.function.specs.Vector.{correctedBy, sameVector}
+use Rattle.function.specs.Binate.{zeros, oneMore}
 use Rattle.machine.specs.Power.{highest}
-use Rattle.machine.proofs.VectorLaws.{length-corrected, length-one-more, one-more-other}
-use Rattle.machine.proofs.FailingLaws.{failing-some}
-use Rattle.machine.proofs.RangeLaws.{in-range-correct, in-range-wider, corrected-in-range}
+use Rattle.function.proofs.VectorLaws.{length-corrected}
+use Rattle.function.proofs.CountLaws.{length-one-more, one-more-other}
+use Rattle.function.proofs.FailingLaws.{failing-some}
+use Rattle.machine.proofs.RangeLaws.{in-range-correct, in-range-wider, row-in-range}
 use Rattle.lanes.specs.Sums.{magnitude, vectorSums, Narrow}
 use Rattle.lanes.specs.Codes.{rowCode, foundCode}
 use Rattle.lanes.proofs.SumsLaws.{sums-narrow, sums-first, magnitude-corrected}
@@ -31,31 +31,32 @@ use Rattle.types.specs.declared.state.State.{State}
 use Rattle.types.specs.declared.stage.Stage.{Stage}
 use Rattle.types.specs.declared.stage.Stage.the-variants as Stage′
 use Rattle.state.specs.Machine.{withStage, run}
-use Rattle.state.specs.Sound.{cap, Ranged, Sound}
+use Rattle.state.specs.Sound.{cap, Sound}
 use Rattle.chunks.proofs.CodeLaws.{code-below, no-row, row-is}
 use Rattle.state.proofs.MachineLaws.{marked-power, marked-other}
 use Rattle.state.proofs.StepSound.{with-stage-same}
 use Rattle.state.proofs.StandsLaws.{Stands, stands-found, stands-row, stands-open, stands-looped, moved, stands-next, Bounded, stands-bounded}
 use Rattle.chunks.proofs.ClearLaws.{uncounted, cleared-zeros}
 use Rattle.chunks.proofs.HeldLaws.{withVectors, marking, Held, Searches, Corrects, Compares, Restores}
+use Rattle.function.specs.Function.{level}
 
 -- what `chunk` asks of its state and its budget
 pub record Begun (t : Table) (start : State) (budget : ℕ) : Type 0 where
   pub inputs : t .n ≤ 8
-  pub sound : Sound t start
+  pub sound : Sound (functionOf t) start
   pub capped : start .k + budget ≤ cap
   pub few : budget ≤ 2000
 
 -- `made` of the budget's steps are made, and `next` is what the search by v found
 pub record Turned (t : Table) (start : State) (budget made : ℕ) (x : State) (sums copy : List ℤ) (next : ℕ) : Type 0 where
   pub held : Held t start made x sums copy
-  pub search : next ≡ foundCode t (failing t (held .v))
+  pub search : next ≡ foundCode t (failing (functionOf t) (held .v))
   pub within : made ≤ budget
 
 -- the loop's invariant: `next` is what the search found, or 513 where v is s again and the state is looped
 pub record Going (t : Table) (start : State) (budget made : ℕ) (x : State) (sums copy : List ℤ) (next : ℕ) : Type 0 where
   pub turned : next ≤ 512 → Turned t start budget made x sums copy next
-  pub closed : next ≡ 513 → (r : State) → Restores x sums copy Stage′.Looped r → r ≡ run t budget start
+  pub closed : next ≡ 513 → (r : State) → Restores x sums copy Stage′.Looped r → r ≡ run (functionOf t) budget start
   pub within : made ≤ budget
   pub known : next ≤ 513
 
@@ -100,12 +101,12 @@ module _ {t : Table} {start : State} {budget : ℕ} (b : Begun t start budget) w
 
     -- what the search found is at most 512
     turned-most : next ≤ 512
-    turned-most = by (failing t v) refl (turn .search)
+    turned-most = by (failing (functionOf t) v) refl (turn .search)
       where
-        by : (o : Option ℕ) → failing t v ≡ o → next ≡ foundCode t o → next ≤ 512
+        by : (o : Option ℕ) → failing (functionOf t) v ≡ o → next ≡ foundCode t o → next ≤ 512
         by none f g = omega arith
         by (some r) f g =
-            let row : r < 256 = omega (arith, failing-some t v r f .inside, rows-le (b .inputs)) in
+            let row : r < 256 = omega (arith, failing-some (functionOf t) v r f .inside, rows-le (b .inputs)) in
             omega (arith, code-below (value t r) r row)
 
     -- so the loop goes on
@@ -118,7 +119,7 @@ module _ {t : Table} {start : State} {budget : ℕ} (b : Begun t start budget) w
     }
 
     -- where no row is found, the state is found, and stays so
-    pub turned-found : {r : State} → next ≡ 512 → Restores x sums copy Stage′.Found r → r ≡ run t budget start
+    pub turned-found : {r : State} → next ≡ 512 → Restores x sums copy Stage′.Found r → r ≡ run (functionOf t) budget start
     turned-found is restores =
         restored restores ∙ stands-found stands budget (turn .within) (ap found (no-row t v (turn .search) (b .inputs) is))
 
@@ -129,7 +130,7 @@ module _ {t : Table} {start : State} {budget : ℕ} (b : Begun t start budget) w
       abbrev sign : Bool
       sign = value t row
 
-      row-found : found (failing t v) ≡ found (some row)
+      row-found : found (failing (functionOf t) v) ≡ found (some row)
       row-found = ap found (row-is t v (turn .search) other .0)
 
       coded : next ≡ rowCode sign row
@@ -149,19 +150,19 @@ module _ {t : Table} {start : State} {budget : ℕ} (b : Begun t start budget) w
           ∙ turned-bounded .past r past)
 
       -- the state is then the machine's
-      pub turned-open : {r : State} → budget ≤ m → Restores x sums copy Stage′.Open r → r ≡ run t budget start
+      pub turned-open : {r : State} → budget ≤ m → Restores x sums copy Stage′.Open r → r ≡ run (functionOf t) budget start
       turned-open all restores =
           restored restores
           ∙ with-stage-same Stage′.Open (withVectors v s x) (stands .stage)
           ∙ stands-open stands row-found
-          ∙ ap (λ (n : ℕ). run t n start) (omega (arith, turn .within))
+          ∙ ap (λ (n : ℕ). run (functionOf t) n start) (omega (arith, turn .within))
 
       -- the vector after the correction by the row
       abbrev u : Vector
-      u = correctedBy sign row v
+      u = correctedBy sign (level 2 row) v
 
       u-weights : length (u .a) ≡ 8
-      u-weights = length-corrected sign row v ∙ turned-bounded .shaped .weights
+      u-weights = length-corrected sign (level 2 row) v ∙ turned-bounded .shaped .weights
 
       -- the state after the correction, but for its vectors
       abbrev after : State
@@ -184,12 +185,12 @@ module _ {t : Table} {start : State} {budget : ℕ} (b : Begun t start budget) w
               let kept = in-range-correct k n (s .a) (s .b) .0 (turned-bounded .copied) in
               compares (k + 1) u s u-weights (turned-bounded .shaped .copied)
               (in-range-correct (k + 1) n (u .a) (u .b) .1
-              (corrected-in-range k n sign row v (stands-row stands row-found) (turned-bounded .shaped .weights) was))
+              (row-in-range k n sign row v (stands-row stands row-found) (turned-bounded .shaped .weights) was))
               (in-range-correct (k + 1) n (s .a) (s .b) .1 (in-range-wider (k + 1) (omega arith) kept))
               u-sums (turn .held .copied)
 
           -- back at s the state is looped, and stays so
-          turned-looped : {r : State} → m < budget → same ≡ true → Restores after later copy Stage′.Looped r → r ≡ run t budget start
+          turned-looped : {r : State} → m < budget → same ≡ true → Restores after later copy Stage′.Looped r → r ≡ run (functionOf t) budget start
           turned-looped more is restores =
               restores u s u-weights (turned-bounded .shaped .copied) u-sums (turn .held .copied)
               ∙ stands-looped stands row-found refl refl budget more (sym compared ∙ is)
@@ -234,10 +235,10 @@ module _ {t : Table} {start : State} {budget : ℕ} (b : Begun t start budget) w
   -- after the loop the state with its vectors, in the stage that `next` stands for, is the machine's
   pub going-ends : {m : ℕ} {x : State} {sums copy : List ℤ} {next : ℕ} {stage : Stage} {r : State} → Going t start budget m x sums copy next
       → (next < 512 → stage ≡ Stage′.Open) × (next ≡ 512 → stage ≡ Stage′.Found) × (next ≡ 513 → stage ≡ Stage′.Looped)
-      → (next < 512 → budget ≤ m) → Restores x sums copy stage r → r ≡ run t budget start
+      → (next < 512 → budget ≤ m) → Restores x sums copy stage r → r ≡ run (functionOf t) budget start
   going-ends {x = x} {sums = sums} {copy = copy} {next = next} {stage = stage} {r = r} g ends all restores = by (decLe next 511) (decLe next 512)
     where
-      by : Dec (next ≤ 511) → Dec (next ≤ 512) → r ≡ run t budget start
+      by : Dec (next ≤ 511) → Dec (next ≤ 512) → r ≡ run (functionOf t) budget start
       by (yes row) _ =
           turned-open (g .turned (omega arith)) (λ e. omega arith) (all (omega arith)) (subst (λ (y : Stage). Restores x sums copy y r) (ends .0 (omega arith)) restores)
       by (no more) (yes last) =

@@ -10,9 +10,9 @@ use lib.IntN.{ℤ}
 use Rattle.types.specs.declared.table.Table.{Table}
 use Rattle.table.specs.Gate.{inRange}
 use Rattle.types.specs.declared.vector.Vector.{Vector}
-use Rattle.machine.specs.Failing.{failing}
-use Rattle.machine.specs.Vector.{correctedBy, sameVector}
-use Rattle.machine.specs.Binate.{zeros}
+use Rattle.function.specs.Failing.{failing}
+use Rattle.function.specs.Vector.{correctedBy, sameVector}
+use Rattle.function.specs.Binate.{zeros}
 use Rattle.lanes.specs.Sums.{magnitude, vectorSums}
 use Rattle.lanes.specs.Codes.{rowCode, foundCode}
 use Rattle.types.specs.declared.state.State.{State}
@@ -21,6 +21,8 @@ use Rattle.types.specs.declared.stage.Stage.the-variants as Stage′
 use Rattle.state.specs.Machine.{withStage}
 use Rattle.state.specs.Sound.{Sound}
 use Rattle.state.proofs.StandsLaws.{Stands, stands-start}
+use Rattle.table.specs.Table.{functionOf}
+use Rattle.function.specs.Function.{level}
 
 -- the loop's state with the vectors v and s
 abbrev pub withVectors : Vector → Vector → State → State
@@ -40,7 +42,7 @@ pub record Held (t : Table) (start : State) (m : ℕ) (x : State) (sums copy : L
   pub small : magnitude v ≤ 14000 + 9 * m
 
 -- the sums of a sound open state, where the loop begins
-pub held-start : {t : Table} {x : State} {sums copy : List ℤ} → Sound t x → x .stage ≡ Stage′.Open → magnitude (x .v) ≤ 14000
+pub held-start : {t : Table} {x : State} {sums copy : List ℤ} → Sound (functionOf t) x → x .stage ≡ Stage′.Open → magnitude (x .v) ≤ 14000
     → sums ≡ vectorSums (x .v) → copy ≡ vectorSums (x .s) → Held t x 0 x sums copy
 held-start {x = x} sound e small current copied = record {
   v = x .v;
@@ -55,12 +57,12 @@ held-start {x = x} sound e small current copied = record {
 abbrev pub Searches : Table → List ℤ → ℕ → Type 0
 Searches t sums next =
     (k : ℕ) (v : Vector) → length (v .a) ≡ 8 → inRange k (t .n) (v .a) (v .b) ≡ true → sums ≡ vectorSums v
-    → next ≡ foundCode t (failing t v)
+    → next ≡ foundCode t (failing (functionOf t) v)
 
 abbrev pub Corrects : List ℤ → ℕ → List ℤ → Type 0
 Corrects sums code after =
     (v : Vector) (y : Bool) (row : ℕ) → length (v .a) ≡ 8 → row < 256 → code ≡ rowCode y row → sums ≡ vectorSums v
-    → after ≡ vectorSums (correctedBy y row v)
+    → after ≡ vectorSums (correctedBy y (level 2 row) v)
 
 abbrev pub Compares : Table → List ℤ → List ℤ → Bool → Type 0
 Compares t sums copy same =

@@ -23,6 +23,7 @@ ghost use Rattle.lanes.specs.Codes.{stepAt};
 ghost use Rattle.state.specs.Machine.{run};
 ghost use Rattle.state.specs.Sound.{cap, Sound};
 ghost use Rattle.chunks.specs.Core.{stateOf};
+ghost use Rattle.table.specs.Table.{functionOf};
 
 // The most steps of a chunk.
 pub const CHUNK: u32 = 2000;
@@ -63,9 +64,9 @@ pub fn chunk(
     budget: u32,
     steps: &[i16; 2048],
 ) -> Core
-    requires { ⌜ (table .n ≤ 8) × Sound table (stateOf core (now counts)) × (core .stage ≡ Stage.Open) × (core .k + budget ≤ cap) ⌝ }
+    requires { ⌜ (table .n ≤ 8) × Sound (functionOf table) (stateOf core (now counts)) × (core .stage ≡ Stage.Open) × (core .k + budget ≤ cap) ⌝ }
     requires { ⌜ (budget ≤ 2000) × (magnitude (core .v) ≤ 14000) × (magnitude (core .s) ≤ 14000) × Holds stepAt 2048 (now steps) ⌝ }
-    ensures { λ r. ⌜ stateOf r (now (counts .exit)) ≡ run table budget (stateOf core (now (counts .entry))) ⌝ }
+    ensures { λ r. ⌜ stateOf r (now (counts .exit)) ≡ run (functionOf table) budget (stateOf core (now (counts .entry))) ⌝ }
 {
     let rows = row_count(table.n);
     let values = lane_values(table);

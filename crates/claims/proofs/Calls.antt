@@ -19,7 +19,8 @@ use Rattle.job.proofs.MachineLaws.{found-ended, looped-ended, binate-ended, ope
 use Rattle.job.proofs.Soundness.{run-sound-from}
 use Rattle.job.proofs.JobChecked.{job-others-kept}
 use Rattle.records.specs.Record.{Record, ofJob, recordBytes, readRecord}
-use Rattle.records.specs.Calls.{written, lent, asRead}
+use Rattle.records.specs.Calls.{asRead}
+use Rattle.writers.specs.Calls.{written, lent}
 use Rattle.claims.specs.Records.{ReadsBack}
 use Rattle.claims.specs.Lists.{Call, carryOnBy, saveAndRead, Reply, number, made, saved, After, afterCarry, afterRead, afterSave, called, ofOpen, callRules, onMachine, orLeft, machineReply, accepted}
 use Rattle.claims.proofs.Records.{lent-start}
@@ -42,22 +43,22 @@ reply-kept : (m : Job) (c : Call) → NoneBroken (callRules m c) → machineRepl
 reply-kept m c kept = ap (orLeft m) (none-broken-answered (callRules m c) (answered (onMachine m c)) kept)
 
 -- and the first broken rule gives its number
-reply-broken : (m : Job) (c : Call) (n : ℕ) → FirstBroken n (callRules m c) → machineReply m c ≡ record { reply = number n; job = m }
+reply-broken : (m : Job) (c : Call) (n : ℕ) → FirstBroken n (callRules m c) → machineReply m c ≡ record { reply = number n 0; job = m }
 reply-broken m c n first = ap (orLeft m) (first-broken-refused (callRules m c) (answered (onMachine m c)) n first)
 
 -- an accepted call gives no number
-accepted-no-number : (m : Job) (c : Call) (n : ℕ) → onMachine m c .reply ≢ number n
+accepted-no-number : (m : Job) (c : Call) (n : ℕ) → onMachine m c .reply ≢ number n 0
 accepted-no-number m (carryOnBy b) n e = let z : _≡_ {A = ℕ} 0 1 = cc in omega arith
 accepted-no-number m (saveAndRead buffer) n e = let z : _≡_ {A = ℕ} 0 1 = cc in omega arith
 
 -- a call is refused exactly where the order gives a number
-pub reply-number : (m : Job) (c : Call) (n : ℕ) → machineReply m c .reply ≡ number n ↔ FirstBroken n (callRules m c)
+pub reply-number : (m : Job) (c : Call) (n : ℕ) → machineReply m c .reply ≡ number n 0 ↔ FirstBroken n (callRules m c)
 reply-number m c n = (by (judged (callRules m c)), λ first. ap (λ (a : After). a .reply) (reply-broken m c n first))
   where
-    by : Judged (callRules m c) → machineReply m c .reply ≡ number n → FirstBroken n (callRules m c)
+    by : Judged (callRules m c) → machineReply m c .reply ≡ number n 0 → FirstBroken n (callRules m c)
     by (inl kept) e = absurd (accepted-no-number m c n (sym (ap (λ (a : After). a .reply) (reply-kept m c kept)) ∙ e))
     by (inr (first, broken)) e =
-        let same : number first ≡ number n = sym (ap (λ (a : After). a .reply) (reply-broken m c first broken)) ∙ e in
+        let same : number first 0 ≡ number n 0 = sym (ap (λ (a : After). a .reply) (reply-broken m c first broken)) ∙ e in
         subst (λ (i : ℕ). FirstBroken i (callRules m c)) (cc) broken
 
 -- ---- the accepted budget

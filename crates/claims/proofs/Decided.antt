@@ -29,8 +29,8 @@ use Rattle.codec.specs.Head.{Head, headAt}
 use Rattle.codec.proofs.HeadLaws.{head-taken, head-forward}
 use Rattle.codec.proofs.StandsLaws.{AllBytes}
 use Rattle.records.specs.Record.{Record, ofTable, ofGate, ofWitness, ofJob, recordBytes, readRecord}
-use Rattle.records.specs.Calls.{recordRules, tooShort}
-use Rattle.records.proofs.WriteBack.{write-back}
+use Rattle.writers.specs.Calls.{recordRules, tooShort}
+use Rattle.writers.proofs.WriteBack.{write-back}
 use Rattle.reporting.specs.declared.tally.Tally.{Tally}
 use Rattle.reporting.specs.Text.{decimal, spaced, lineFeed}
 use Rattle.reporting.specs.Lines.{verdictText, recordLine, refusalLine, lastLine, tooLongLine}
@@ -95,42 +95,35 @@ right-line t kept position =
 
 -- ---- a report
 
--- one record more, whatever its job
-counted-more : (x : Stage) (k : ℕ) (t : Tally) → counted x k t .records ≡ t .records + 1
-counted-more Open k t = refl
-counted-more Found k t = refl
-counted-more Looped k t = refl
-counted-more Binate k t = refl
-
 module _ (s : List ℕ) where
   -- the record at a position, where the rest of the report is right
   right-record : (rest : ℕ → Tally → List ℕ) (at : ℕ) (t : Tally) (r : Reading Head) → headAt 1 s at ≡ r → at < length s
-      → ((next : ℕ) (u : Tally) → at < next → RightLines s next (u .records + 1) (rest next u)) → RightLines s at (t .records + 1) (recordThen rest t r)
-  right-record rest at t (refused n) e here later = refusal n t here e
+      → ((next : ℕ) (u : Tally) → at < next → RightLines s next u (rest next u)) → RightLines s at t (recordThen rest t r)
+  right-record rest at t (refused n) e here later = refusal t n here e
   right-record rest at t (answered f) e here later =
       let j = decided (f .value .table) in
       let u = counted (j .stage) (j .k) t in
       table f e (right-line (f .value .table) (head-taken 1 s at f e) (t .records + 1))
-      (subst (λ (position : ℕ). RightLines s (f .next) (position + 1) (rest (f .next) u)) (counted-more (j .stage) (j .k) t) (later (f .next) u (head-forward 1 s at f e)))
+      (subst (λ (m : Job). RightLines s (f .next) (counted (m .stage) (m .k) t) (rest (f .next) u)) (sym (decided-run (f .value .table))) (later (f .next) u (head-forward 1 s at f e)))
 
   -- or the last line, at the end
-  picked : (b : Bool) {at position : ℕ} (t : Tally) {lines : List ℕ} → ltb at (length s) ≡ b → (at < length s → RightLines s at position lines)
-      → RightLines s at position (pickBytes b lines (lastLine t))
+  picked : (b : Bool) {at : ℕ} (t : Tally) {lines : List ℕ} → ltb at (length s) ≡ b → (at < length s → RightLines s at t lines)
+      → RightLines s at t (pickBytes b lines (lastLine t))
   picked true {at = at} t e lines = lines (ltb-true at (length s) e)
   picked false {at = at} t e lines = last t (ltb-false at (length s) e)
 
   -- as many records as there are bytes left reach the end
-  right-from : (left at : ℕ) (t : Tally) → length s ≤ left + at → RightLines s at (t .records + 1) (reportFrom left s at t)
+  right-from : (left at : ℕ) (t : Tally) → length s ≤ left + at → RightLines s at t (reportFrom left s at t)
   unfolding reportFrom
   right-from zero at t h = last {at = at} t (omega arith)
   right-from (suc left) at t h =
       picked (ltb at (length s)) t refl (λ here. right-record (reportFrom left s) at t (headAt 1 s at) refl here (λ next u forward. right-from left next u (omega arith)))
 
   -- the report of an input that is not too long
-  right-lines : length s ≤ inputMost → RightLines s 0 1 (report s)
+  right-lines : length s ≤ inputMost → RightLines s 0 noTally (report s)
   unfolding report
   right-lines h =
-      subst (λ (b : Bool). RightLines s 0 1 (pickBytes b tooLongLine (reportFrom (length s) s 0 noTally))) (sym (le-ltb inputMost (length s) h)) (right-from (length s) 0 noTally (omega arith))
+      subst (λ (b : Bool). RightLines s 0 noTally (pickBytes b tooLongLine (reportFrom (length s) s 0 noTally))) (sym (le-ltb inputMost (length s) h)) (right-from (length s) 0 noTally (omega arith))
 
 -- ---- the records that the C interface hands back
 

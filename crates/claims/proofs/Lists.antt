@@ -14,7 +14,7 @@ use Rattle.job.specs.Machine.{run, fresh}
 use Rattle.job.specs.Sound.{Sound}
 use Rattle.job.specs.Calls.{freshJob}
 use Rattle.job.proofs.MachineLaws.{fresh-table, run-zero, run-add, run-table}
-use Rattle.job.proofs.Soundness.{fresh-sound}
+use Rattle.job.proofs.Soundness.{fresh-sound, run-grows}
 use Rattle.records.specs.Record.{ofJob}
 use Rattle.theory.proofs.Bound.{bound-on-k}
 use Rattle.claims.specs.Records.{ReadsBack}
@@ -65,7 +65,7 @@ module _ (read-back : (j : Job) → length (j .table .bytes) ≡ 32 → ReadsBac
 
   -- every list of calls from the fresh job of a table is the machine
   pub calls-are-the-machine : (t : Table) → length (t .bytes) ≡ 32 → CallsAreTheMachine t
-  calls-are-the-machine t l = record { list = list; refusal = reply-number }
+  calls-are-the-machine t l = record { list = list; refusal = reply-number; grows = λ m b. run-grows m b }
     where
       list : (j : Job) → freshJob t ≡ answered j → (cs : List Call) → ListIsTheMachine t j cs
       list j e cs =

@@ -11,7 +11,7 @@ use Rattle.cell.specs.Refusal.{Rule, Answered, answered, refused, NoneBroken, a
 use Rattle.cell.proofs.RefusalLaws.{answered-none-broken}
 use Rattle.codec.proofs.WrittenLaws.{written-length}
 use Rattle.records.specs.Record.{Record, ofTable, ofGate, ofWitness, ofJob, recordBytes}
-use Rattle.records.specs.Calls.{recordRules, tooShort, writeRecord, lent}
+use Rattle.writers.specs.Calls.{recordRules, tooShort, writeRecord, lent}
 
 -- the bytes of a record stand at the start of the buffer
 pub lent-start : (out bytes : List ℕ) → take (length bytes) (lent out (answered bytes)) ≡ bytes

@@ -2,12 +2,12 @@
 use mathlib.Core.Path.{_≡_, refl, sym, _∙_, ap, subst}
 use mathlib.Core.Bool.{true}
 use mathlib.Core.Logic.{_⊎_, inl, inr}
-use mathlib.Core.List.{List, [], _∷_}
+use mathlib.Core.List.{List, []}
 use Prim.Native.Nat.{ℕ}
 use native.Mathlib.Omega.{arith}
 use lib.IntN.{ℤ}
 use Rattle.cell.proofs.TableChecked.{kept-inputs, table-kept}
-use Rattle.table.specs.Gate.{Realises}
+use Rattle.function.specs.Gate.{Realises}
 use Rattle.cell.specs.Refusal.{answered, NoneBroken}
 use Rattle.cell.specs.Calls.{tableRules, checkGate, checkWitness}
 use Rattle.cell.proofs.RefusalLaws.{answered-none-broken}
@@ -21,6 +21,7 @@ use Rattle.view.specs.declared.shown.Shown.{Shown}
 use Rattle.view.specs.declared.shown.Verdict.the-variants as Verdict′
 use Rattle.view.specs.Calls.{showJob, shownIn}
 use Rattle.theory.proofs.Answers.{EndedWithout, found-realises, found-accepted, ended-accepted, ended-excludes}
+use Rattle.table.specs.Table.{functionOf}
 
 -- a job that is shown is sound, and its table is not refused
 module _ (j : Job) (s : Shown) (e : showJob j ≡ answered s) where
@@ -58,8 +59,8 @@ module _ (j : Job) (s : Shown) (e : showJob j ≡ answered s) where
       (w .0, sym (w .1) ∙ ap (λ (x : Shown). x .witness) (parts j s e .1))
 
   -- a gate that is shown realises the table
-  pub shown-gate : s .verdict ≡ Verdict′.Gate → Realises (s .gate .weights) (s .gate .threshold) (j .table)
-  shown-gate v = subst (λ g. Realises (g .weights) (g .threshold) (j .table)) (found v .1) (found-realises j (sound j s e) (found v .0))
+  pub shown-gate : s .verdict ≡ Verdict′.Gate → Realises (s .gate .weights) (s .gate .threshold) (functionOf (j .table))
+  shown-gate v = subst (λ g. Realises (g .weights) (g .threshold) (functionOf (j .table))) (found v .1) (found-realises j (sound j s e) (found v .0))
 
   -- and is accepted by the checker
   pub shown-gate-accepted : s .verdict ≡ Verdict′.Gate → checkGate (j .table) (s .gate) ≡ answered true
@@ -70,5 +71,5 @@ module _ (j : Job) (s : Shown) (e : showJob j ≡ answered s) where
   shown-witness-accepted v = ap (checkWitness (j .table)) (sym (ended v .1)) ∙ ended-accepted j (sound j s e) (taken j s e) (ended v .0)
 
   -- and excludes every gate
-  pub shown-excludes : s .verdict ≡ Verdict′.Witness → (ws : List ℤ) (th : ℤ) → ¬ Realises ws th (j .table)
+  pub shown-excludes : s .verdict ≡ Verdict′.Witness → (ws : List ℤ) (th : ℤ) → ¬ Realises ws th (functionOf (j .table))
   shown-excludes v = ended-excludes j (kept-inputs (j .table) (taken j s e)) (sound j s e) (ended v .0)

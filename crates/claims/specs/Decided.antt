@@ -10,8 +10,8 @@ use Rattle.types.specs.declared.table.Table.{Table}
 use Rattle.types.specs.declared.gate.Gate.{Gate}
 use Rattle.types.specs.declared.witness.Witness.{Witness}
 use Rattle.types.specs.declared.stage.Stage.the-variants.{Open}
-use Rattle.table.specs.Gate.{Realises}
-use Rattle.table.specs.Witness.{countOf, Balances}
+use Rattle.function.specs.Gate.{Realises}
+use Rattle.function.specs.Witness.{countOf, Balances}
 use Rattle.cell.specs.Refusal.{answered, refused}
 use Rattle.cell.specs.Calls.{checkGate, checkWitness}
 use Rattle.job.specs.declared.job.Job.{Job}
@@ -23,23 +23,24 @@ use Rattle.records.specs.Record.{Record, ofTable, ofGate, ofWitness, ofJob, rec
 use Rattle.reporting.specs.declared.tally.Tally.{Tally}
 use Rattle.reporting.specs.Text.{decimal, spaced, lineFeed}
 use Rattle.reporting.specs.Lines.{gateText, witnessText, openText, recordLine, refusalLine, lastLine}
-use Rattle.reporting.specs.Report.{inputMost, decided, report}
+use Rattle.reporting.specs.Report.{inputMost, decided, noTally, counted, report}
 use Rattle.threshold.specs.Result.{Handed}
 use Rattle.threshold.specs.Interface.{decide, carriedOn}
 use Rattle.claims.specs.Jobs.{Taken}
+use Rattle.table.specs.Table.{functionOf}
 
 -- ---- a right outcome
 
 -- a gate that has the table's value on every row, and that the checker accepts
 pub record RightGate (t : Table) (g : Gate) : Type 0 where
-  pub realises : Realises (g .weights) (g .threshold) t
+  pub realises : Realises (g .weights) (g .threshold) (functionOf t)
   pub accepted : checkGate t g ≡ answered true
 
 -- a witness that balances, and that the checker accepts; then no integer weights and T of any size realise the table
 pub record RightWitness (t : Table) (w : Witness) : Type 0 where
-  pub balances : Balances t (countOf (w .counts))
+  pub balances : Balances (functionOf t) (countOf (w .counts))
   pub accepted : checkWitness t w ≡ answered true
-  pub no-gate : (ws : List ℤ) (th : ℤ) → ¬ Realises ws th t
+  pub no-gate : (ws : List ℤ) (th : ℤ) → ¬ Realises ws th (functionOf t)
 
 -- what bytes show of a table that the machine has brought to the job m, in a form of records: a right gate, a right witness, or m itself,
 -- given up so far, if it is open
@@ -69,12 +70,16 @@ outcomeLine position t k x = decimal position ++ (spaced (decimal (t .n)) ++ (ou
 abbrev pub RightLine : ℕ → Table → List ℕ → Type 0
 RightLine position t = Right t (machineJob t) (outcomeLine position t (machineJob t .k))
 
--- the lines of an input from one of its bytes on: of each table that is read a right line, until a refusal or the end, and the last line
-pub data RightLines (s : List ℕ) : (at position : ℕ) → List ℕ → Type 0 where
-  table : {at position : ℕ} {line rest : List ℕ} (f : Field Head) → headAt 1 s at ≡ answered f → RightLine position (f .value .table) line
-      → RightLines s (f .next) (position + 1) rest → RightLines s at position (line ++ rest)
-  refusal : {at position : ℕ} (n : ℕ) (t : Tally) → at < length s → headAt 1 s at ≡ refused n → RightLines s at position (refusalLine position n ++ lastLine t)
-  last : {at position : ℕ} (t : Tally) → length s ≤ at → RightLines s at position (lastLine t)
+-- the lines of an input from one of its bytes on, after the records of a tally: of each table that is read a right line, until a refusal or
+-- the end, and the last line, with the numbers of the machine's jobs
+pub data RightLines (s : List ℕ) : (at : ℕ) → Tally → List ℕ → Type 0 where
+  table : {at : ℕ} {t : Tally} {line rest : List ℕ} (f : Field Head) → headAt 1 s at ≡ answered f
+      → RightLine (t .records + 1) (f .value .table) line
+      → RightLines s (f .next) (counted (machineJob (f .value .table) .stage) (machineJob (f .value .table) .k) t) rest
+      → RightLines s at t (line ++ rest)
+  refusal : {at : ℕ} (t : Tally) (n : ℕ) → at < length s → headAt 1 s at ≡ refused n
+      → RightLines s at t (refusalLine (t .records + 1) n ++ lastLine t)
+  last : {at : ℕ} (t : Tally) → length s ≤ at → RightLines s at t (lastLine t)
 
 -- ---- in what the C interface hands back
 
@@ -89,7 +94,7 @@ pub record RightHanded (t : Table) (before next : Job) (h : Handed) : Type 0 whe
 -- is right for the table that they are, and what carry-on hands back is right for the table of the job that they are
 pub record DecidedIsRight (s : List ℕ) : Type 0 where
   pub line : (t : Table) → Taken t → (position : ℕ) → RightLine position t (recordLine position (decided t))
-  pub lines : length s ≤ inputMost → RightLines s 0 1 (report s)
+  pub lines : length s ≤ inputMost → RightLines s 0 noTally (report s)
   pub decides : (room : ℕ) (h : Handed) → decide s room ≡ answered h → (t : Table) × (readRecord s ≡ answered (ofTable t)) × RightHanded t (fresh t) (machineJob t) h
   pub carries-on : (budget room : ℕ) (h : Handed) → carriedOn s budget room ≡ answered h
       → (j : Job) × (readRecord s ≡ answered (ofJob j)) × RightHanded (j .table) j (run budget j) h

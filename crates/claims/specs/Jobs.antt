@@ -7,10 +7,10 @@ use Prim.Native.Nat.{ℕ, _+_, _*_, _≤_, _<_}
 use lib.IntN.{ℤ}
 use lib.ListN.{length}
 use Rattle.types.specs.declared.table.Table.{Table}
-use Rattle.table.specs.Gate.{Realises}
+use Rattle.function.specs.Gate.{Realises}
 use Rattle.cell.specs.Refusal.{answered, refused, NoneBroken}
 use Rattle.cell.specs.Calls.{tableRules, pastRows, checkGate, checkWitness}
-use Rattle.machine.specs.Failing.{fails}
+use Rattle.function.specs.Failing.{fails}
 use Rattle.job.specs.declared.job.Job.{Job}
 use Rattle.types.specs.declared.stage.Stage.the-variants.{Open, Found, Looped, Binate}
 use Rattle.job.specs.Machine.{step, run, fresh}
@@ -21,6 +21,7 @@ use Rattle.view.specs.declared.shown.Verdict.the-variants as Verdict′
 use Rattle.view.specs.Calls.{rowFails, showJob, shownIn}
 use Rattle.theory.specs.Bound.{squares, factor}
 use Rattle.claims.specs.Claims.{ByRules}
+use Rattle.table.specs.Table.{functionOf}
 
 -- a table that no rule of a table refuses
 abbrev pub Taken : Table → Type 0
@@ -32,7 +33,7 @@ pub record JobNumbersOnTheirConditions : Type 0 where
   pub decided : (t : Table) → ByRules (tableRules t []) (run callBudget (fresh t)) (decidedJob t)
   pub carry-on : (j : Job) (b : ℕ) → j .stage ≡ Open → ByRules (jobRules j (budgetRange b ∷ pastCap j b ∷ [])) (run b j) (carryOn j b)
   pub carry-on-ended : (j : Job) (b : ℕ) → j .stage ≢ Open → ByRules (jobRules j (budgetRange b ∷ [])) j (carryOn j b)
-  pub row-fails : (j : Job) (r : ℕ) → ByRules (jobRules j (pastRows (j .table .n) r ∷ [])) (fails (j .table) (j .v) r) (rowFails j r)
+  pub row-fails : (j : Job) (r : ℕ) → ByRules (jobRules j (pastRows (j .table .n) r ∷ [])) (fails (functionOf (j .table)) (j .v) r) (rowFails j r)
   pub show-job : (j : Job) → ByRules (jobRules j []) (shownIn (j .stage) j) (showJob j)
 
 -- Soundness is document 01's list, and it is kept: the test says what the definition says; a step of any sound open job below the cap
@@ -45,10 +46,10 @@ pub record SoundnessIsKept : Type 0 where
 -- Demand 2, of any job handed in: a gate that is shown has the table's value on every row, and the checker accepts it; "not a threshold
 -- function" is said only with a witness that the checker accepts, and then no integer weights and threshold of any size realise the table
 pub record ShownIsRight : Type 0 where
-  pub gate : (j : Job) (s : Shown) → showJob j ≡ answered s → s .verdict ≡ Verdict′.Gate → Realises (s .gate .weights) (s .gate .threshold) (j .table)
+  pub gate : (j : Job) (s : Shown) → showJob j ≡ answered s → s .verdict ≡ Verdict′.Gate → Realises (s .gate .weights) (s .gate .threshold) (functionOf (j .table))
   pub gate-accepted : (j : Job) (s : Shown) → showJob j ≡ answered s → s .verdict ≡ Verdict′.Gate → checkGate (j .table) (s .gate) ≡ answered true
   pub witness-accepted : (j : Job) (s : Shown) → showJob j ≡ answered s → s .verdict ≡ Verdict′.Witness → checkWitness (j .table) (s .witness) ≡ answered true
-  pub no-gate : (j : Job) (s : Shown) → showJob j ≡ answered s → s .verdict ≡ Verdict′.Witness → (ws : List ℤ) (th : ℤ) → ¬ Realises ws th (j .table)
+  pub no-gate : (j : Job) (s : Shown) → showJob j ≡ answered s → s .verdict ≡ Verdict′.Witness → (ws : List ℤ) (th : ℤ) → ¬ Realises ws th (functionOf (j .table))
 
 -- Carry-on is the machine: an accepted call gives the machine's job after the budget or at its end, and its K has grown by the corrections
 -- made; two accepted calls are one run of the sum; a refused call gives the number, the job as it came in, and 0. What is decided in one call is one
@@ -63,13 +64,13 @@ pub record CarryOnIsTheMachine : Type 0 where
 -- Demand 3: K is at most (n + 1) × (4 × the sum of the squared weights + (2T − 1) squared) for every choice of n integer weights and a T,
 -- of any size, that realises the table; and the sum of the squares of a1..an and b is at most (n + 1) × K
 pub record CorrectionsAreBounded : Type 0 where
-  pub bound : (t : Table) → Taken t → (m : ℕ) (ws : List ℤ) (th : ℤ) → length ws ≡ t .n → Realises ws th t → (run m (fresh t)) .k ≤ (t .n + 1) * factor ws th
+  pub bound : (t : Table) → Taken t → (m : ℕ) (ws : List ℤ) (th : ℤ) → length ws ≡ t .n → Realises ws th (functionOf t) → (run m (fresh t)) .k ≤ (t .n + 1) * factor ws th
   pub vector : (t : Table) (m : ℕ) → squares ((run m (fresh t)) .v) ≤ (t .n + 1) * (run m (fresh t)) .k
 
--- Beyond the demands: a table that some integer gate realises never ends looped or binate, and once the budgets reach that gate's factor the
--- job is found. A function that fits is never written off, and given up only below its own bound
+-- Beyond the demands: a table that some integer gate realises never ends looped or binate, and once the budgets reach (n + 1) × that gate's
+-- factor, below the cap, the job is found. A function that fits is never written off, and given up only below its own bound
 pub record WhatFitsIsFound : Type 0 where
-  pub never-looped : (t : Table) → Taken t → (ws : List ℤ) (th : ℤ) → Realises ws th t → (m : ℕ) → m ≤ cap → (run m (fresh t)) .stage ≢ Looped
-  pub never-binate : (t : Table) → Taken t → (ws : List ℤ) (th : ℤ) → Realises ws th t → (m : ℕ) → m ≤ cap → (run m (fresh t)) .stage ≢ Binate
-  pub found : (t : Table) → Taken t → (ws : List ℤ) (th : ℤ) → length ws ≡ t .n → Realises ws th t
+  pub never-looped : (t : Table) → Taken t → (ws : List ℤ) (th : ℤ) → Realises ws th (functionOf t) → (m : ℕ) → m ≤ cap → (run m (fresh t)) .stage ≢ Looped
+  pub never-binate : (t : Table) → Taken t → (ws : List ℤ) (th : ℤ) → Realises ws th (functionOf t) → (m : ℕ) → m ≤ cap → (run m (fresh t)) .stage ≢ Binate
+  pub found : (t : Table) → Taken t → (ws : List ℤ) (th : ℤ) → length ws ≡ t .n → Realises ws th (functionOf t)
       → (m : ℕ) → (t .n + 1) * factor ws th ≤ m → m ≤ cap → (run m (fresh t)) .stage ≡ Found

@@ -1,4 +1,5 @@
 pub mod Claims
+pub mod Tables
 pub mod Jobs
 pub mod Records
 pub mod Lists

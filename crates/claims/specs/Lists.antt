@@ -9,7 +9,7 @@ use lib.ListN.{length, take}
 use Rattle.types.specs.declared.table.Table.{Table}
 use Rattle.types.specs.declared.stage.Stage.{Stage}
 use Rattle.types.specs.declared.stage.Stage.the-variants.{Open, Found, Looped, Binate}
-use Rattle.table.specs.Gate.{Realises}
+use Rattle.function.specs.Gate.{Realises}
 use Rattle.cell.specs.declared.refusal.Status.{Status}
 use Rattle.cell.specs.declared.refusal.Status.the-variants as Status′
 use Rattle.cell.specs.Refusal.{Rule, Answered, answered, refused, checked, FirstBroken}
@@ -21,11 +21,13 @@ use Rattle.job.specs.Calls.{freshJob, jobRules, budgetRange, pastCap, carryOn, 
 use Rattle.records.specs.declared.read.Kind.{Kind}
 use Rattle.records.specs.declared.read.Kind.the-variants as Kind′
 use Rattle.records.specs.declared.read.Read.{Read}
-use Rattle.records.specs.declared.write.Written.{Written}
-use Rattle.records.specs.declared.write.Written.the-variants as Written′
+use Rattle.writers.specs.declared.write.Written.{Written}
+use Rattle.writers.specs.declared.write.Written.the-variants as Written′
 use Rattle.records.specs.Record.{ofJob, recordBytes, readRecord}
-use Rattle.records.specs.Calls.{recordRules, tooShort, writeRecord, written, lent, asRead}
+use Rattle.records.specs.Calls.{asRead}
+use Rattle.writers.specs.Calls.{recordRules, tooShort, writeRecord, written, lent}
 use Rattle.theory.specs.Bound.{factor}
+use Rattle.table.specs.Table.{functionOf}
 
 -- ---- calls and replies
 
@@ -34,9 +36,9 @@ pub data Call : Type 0 where
   carryOnBy : (budget : ℕ) → Call
   saveAndRead : (buffer : List ℕ) → Call
 
--- what a call gives: the number of its refusal; the corrections made; or the bytes saved
+-- what a call gives: the number of its refusal, with the corrections that it reports beside it; the corrections made; or the bytes saved
 pub data Reply : Type 0 where
-  number : (n : ℕ) → Reply
+  number : (n corrections : ℕ) → Reply
   made : (corrections : ℕ) → Reply
   saved : (bytes : List ℕ) → Reply
 
@@ -50,7 +52,7 @@ pub record After : Type 0 where
 -- of carry-on: its status, its corrections made and its job
 abbrev pub carriedReply : Status → ℕ → Reply
 carriedReply Status′.Done corrections = made corrections
-carriedReply (Status′.Refused n) corrections = number n
+carriedReply (Status′.Refused n) corrections = number n corrections
 
 abbrev pub afterCarry : Carried → After
 afterCarry c = record { reply = carriedReply (c .status) (c .made); job = c .job }
@@ -59,10 +61,10 @@ afterCarry c = record { reply = carriedReply (c .status) (c .made); job = c .job
 -- refusal, or 0, which no rule has
 abbrev pub replacedBy : Kind → List ℕ → (old next : Job) → After
 replacedBy Kind′.Job bytes old next = record { reply = saved bytes; job = next }
-replacedBy Kind′.Table bytes old next = record { reply = number 0; job = old }
-replacedBy Kind′.Gate bytes old next = record { reply = number 0; job = old }
-replacedBy Kind′.Witness bytes old next = record { reply = number 0; job = old }
-replacedBy (Kind′.Refused n) bytes old next = record { reply = number n; job = old }
+replacedBy Kind′.Table bytes old next = record { reply = number 0 0; job = old }
+replacedBy Kind′.Gate bytes old next = record { reply = number 0 0; job = old }
+replacedBy Kind′.Witness bytes old next = record { reply = number 0 0; job = old }
+replacedBy (Kind′.Refused n) bytes old next = record { reply = number n 0; job = old }
 
 abbrev pub afterRead : Job → List ℕ → Read → After
 afterRead old bytes q = replacedBy (q .kind) bytes old (q .job)
@@ -70,7 +72,7 @@ afterRead old bytes q = replacedBy (q .kind) bytes old (q .job)
 -- of save: the number of bytes written, which are read from the buffer as the save left it; or a refusal
 abbrev pub afterSave : Job → List ℕ → Written → After
 afterSave old buffer (Written′.Bytes size) = let bytes = take size buffer in afterRead old bytes (asRead (readRecord bytes))
-afterSave old buffer (Written′.Refused n) = record { reply = number n; job = old }
+afterSave old buffer (Written′.Refused n) = record { reply = number n 0; job = old }
 
 abbrev pub called : Job → Call → After
 called j (carryOnBy budget) = afterCarry (carried j (carryOn j budget))
@@ -105,10 +107,10 @@ abbrev pub onMachine : Job → Call → After
 onMachine m (carryOnBy budget) = record { reply = made ((run budget m) .k - m .k); job = run budget m }
 onMachine m (saveAndRead buffer) = record { reply = saved (recordBytes (ofJob m)); job = m }
 
--- a refused call leaves the job as it was
+-- a refused call makes no correction and leaves the job as it was
 abbrev pub orLeft : Job → Answered After → After
 orLeft m (answered a) = a
-orLeft m (refused n) = record { reply = number n; job = m }
+orLeft m (refused n) = record { reply = number n 0; job = m }
 
 -- the first broken rule of the order gives its number; where none is broken the call is accepted
 abbrev pub machineReply : Job → Call → After
@@ -144,10 +146,11 @@ pub record ListIsTheMachine (t : Table) (j : Job) (cs : List Call) : Type 0 wher
   pub replied : replies j cs ≡ machineReplies j cs
   pub job : after j cs ≡ run (fed j cs) j
   pub sound : Sound (after j cs)
-  pub bound : (ws : List ℤ) (th : ℤ) → length ws ≡ t .n → Realises ws th t → (after j cs) .k ≤ (t .n + 1) * factor ws th
+  pub bound : (ws : List ℤ) (th : ℤ) → length ws ≡ t .n → Realises ws th (functionOf t) → (after j cs) .k ≤ (t .n + 1) * factor ws th
 
 -- Every list of calls from the fresh job of the table is the machine; and the machine refuses a call exactly where its order gives a number
--- for the call's arguments and the machine's job
+-- for the call's arguments and the machine's job; its K never falls, so that what it grows by is a difference
 pub record CallsAreTheMachine (t : Table) : Type 0 where
   pub list : (j : Job) → freshJob t ≡ answered j → (cs : List Call) → ListIsTheMachine t j cs
-  pub refusal : (m : Job) (c : Call) (n : ℕ) → machineReply m c .reply ≡ number n ↔ FirstBroken n (callRules m c)
+  pub refusal : (m : Job) (c : Call) (n : ℕ) → machineReply m c .reply ≡ number n 0 ↔ FirstBroken n (callRules m c)
+  pub grows : (m : Job) (budget : ℕ) → m .k ≤ (run budget m) .k

@@ -5,7 +5,7 @@ use Prim.Native.Nat.{ℕ, _≤_}
 use lib.ListN.{length, take, drop}
 use Rattle.cell.specs.Refusal.{answered, refused}
 use Rattle.records.specs.Record.{Record, recordBytes, readRecord}
-use Rattle.records.specs.Calls.{recordRules, tooShort, writeRecord, lent}
+use Rattle.writers.specs.Calls.{recordRules, tooShort, writeRecord, lent}
 use Rattle.claims.specs.Claims.{ByRules}
 
 -- Demand 2: reading what was written gives the same value

@@ -11,7 +11,14 @@ ghost use Rattle.claims.specs.Report.{ReportIsItsLines};
 ghost use Rattle.claims.specs.Decided.{DecidedIsRight};
 ghost use Rattle.claims.specs.Records.{ReadsBack, WritesBack, RecordsAreWritten};
 ghost use Rattle.claims.specs.Jobs.{JobNumbersOnTheirConditions, SoundnessIsKept, ShownIsRight, CarryOnIsTheMachine, CorrectionsAreBounded, WhatFitsIsFound};
+ghost use Rattle.types.specs.declared.table.Table.{Table};
+ghost use Rattle.claims.specs.Tables.{TablesAsWritten};
 ghost use Rattle.claims.specs.Claims.{NumbersOnTheirConditions, CheckerIsExact, WitnessExcludes, CheckedWitnessExcludes};
+
+// Document 01: what the definitions over any function say of a table.
+pub fn tables_as_written()
+    ensures { λ _. ⌜ ((t : Table) → TablesAsWritten t) ⌝ }
+{}
 
 // Demand 1: a call gives a number exactly on its condition, and the earlier one in its order wins.
 pub fn numbers_on_their_conditions()
@@ -38,7 +45,7 @@ pub fn job_numbers_on_their_conditions()
     ensures { λ _. ⌜ JobNumbersOnTheirConditions ⌝ }
 {}
 
-// Document 01, "A sound job": the test is exact, and every job that the machine reaches is sound.
+// Document 01, "The stepping machine", a sound job: the test is exact, and every job that the machine reaches is sound.
 pub fn soundness_is_kept()
     ensures { λ _. ⌜ SoundnessIsKept ⌝ }
 {}

@@ -10,7 +10,7 @@ use native.Mathlib.Numerals.{add-one}
 use native.Mathlib.Omega.{arith}
 use lib.Dec.{ltb}
 use borrow.Author.Tests.{lt-ltb}
-use Rattle.table.specs.Witness.{onlyIf, countOf}
+use Rattle.function.specs.Witness.{onlyIf, countOf}
 use Rattle.codec.specs.Number.{numberBytes}
 use Rattle.codec.specs.RowList.{pairBytes, pairsFrom, filledFrom, rowListBytes}
 

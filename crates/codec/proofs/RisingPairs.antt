@@ -7,7 +7,8 @@ use native.Mathlib.Nat.{add-zero}
 use native.Mathlib.Omega.{arith}
 use lib.ListN.{length, set, length-append}
 use lib.Seq.{getD-set-same, getD-set-other}
-use Rattle.table.specs.Witness.{countOf, countLimit}
+use Rattle.table.specs.Witness.{countLimit}
+use Rattle.function.specs.Witness.{countOf}
 use Rattle.codec.specs.Number.{numberBytes}
 use Rattle.codec.specs.RowList.{pairsFrom, filledFrom}
 use Rattle.codec.proofs.StandsLaws.{Stands, stands-nil, stands-join}

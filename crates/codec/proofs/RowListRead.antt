@@ -13,10 +13,11 @@ use lib.Seq.{set-getD, ext-getD}
 use borrow.Author.Tests.{lt-ltb, le-leb}
 use Rattle.numbers.specs.Tests.{allAtMost}
 use Rattle.numbers.proofs.TestLaws.{and-both}
-use Rattle.table.specs.Witness.{countOf, countLimit}
+use Rattle.table.specs.Witness.{countLimit}
+use Rattle.function.specs.Witness.{countOf}
 use Rattle.cell.specs.Refusal.{answered}
-use Rattle.machine.specs.Binate.{zeros}
-use Rattle.machine.proofs.BinateLaws.{getD-zeros}
+use Rattle.function.specs.Binate.{zeros}
+use Rattle.function.proofs.CountLaws.{getD-zeros}
 use Rattle.codec.specs.Field.{field}
 use Rattle.codec.specs.Number.{numberBytes}
 use Rattle.codec.specs.RowList.{pairsFrom, filledFrom, rowListBytes, RowList, Pair, lengthFits, rowFits, countFits, pairAt, pairsAt, rowListAt}

@@ -2,7 +2,7 @@
 -- stood above those before it, and the bytes are those of its counts. Where ranges are refused at once, every list that is read has
 -- kept them. Assumes nothing.
 use mathlib.Core.Path.{_≡_, refl, sym, _∙_}
-use mathlib.Core.Bool.{Bool, true, false, not}
+use mathlib.Core.Bool.{Bool, true, false}
 use mathlib.Core.List.{List}
 use Prim.Native.Nat.{ℕ, zero, suc, _+_, _-_, _≤_, _<_}
 use native.Mathlib.Omega.{arith}
@@ -13,8 +13,8 @@ use Rattle.numbers.specs.Tests.{allAtMost}
 use Rattle.numbers.proofs.TestLaws.{no-true, and-left, and-right}
 use Rattle.table.specs.Witness.{countLimit}
 use Rattle.cell.specs.Refusal.{answered}
-use Rattle.machine.specs.Binate.{zeros}
-use Rattle.machine.proofs.BinateLaws.{getD-zeros}
+use Rattle.function.specs.Binate.{zeros}
+use Rattle.function.proofs.CountLaws.{getD-zeros}
 use Rattle.codec.specs.Field.{Field, field}
 use Rattle.codec.specs.Number.{numberBytes, numberAt}
 use Rattle.codec.specs.RowList.{pairsFrom, rowListBytes, RowList, Pair, lengthFits, rowFits, countFits, pairAt, storedIf, pairsAt, rowListAt}

@@ -2,12 +2,12 @@
 -- Assumes nothing.
 use mathlib.Core.Path.{_≡_, refl, sym, _∙_, ap}
 use mathlib.Core.Bool.{Bool, true, false, not, cond, _&&_}
-use mathlib.Core.List.{List, _++_}
+use mathlib.Core.List.{List}
 use Prim.Native.Nat.{ℕ, zero, suc, _+_, _≤_, _<_}
 use native.Mathlib.Nat.{add-zero}
 use native.Mathlib.Decide.{ℕ-discrete}
 use native.Mathlib.Omega.{arith}
-use lib.ListN.{length, getD, set, length-append, length-set, getD-replicate}
+use lib.ListN.{length, getD, set, length-set, getD-replicate}
 use lib.Seq.{getD-set-same, getD-set-other, ext-getD}
 use lib.IntN.{ℤ, pos, natAbs}
 use lib.Dec.{ltb}
@@ -16,13 +16,13 @@ use Rattle.numbers.proofs.TestLaws.{no-true}
 use Rattle.table.specs.Gate.{weightLimit, within, inRange}
 use Rattle.cell.specs.Refusal.{answered}
 use Rattle.types.specs.declared.vector.Vector.{Vector}
-use Rattle.machine.specs.Vector.{zeroVector}
+use Rattle.function.specs.Vector.{zeroVector}
 use Rattle.machine.proofs.RangeLaws.{within-correct, in-range-correct, in-range-at, in-range-past}
 use Rattle.codec.specs.Field.{Field, field}
 use Rattle.codec.specs.Number.{numberBytes, numberAt, signedCode, signedOf}
 use Rattle.codec.specs.VectorField.{weightBytes, vectorBytes, signedAt, weightsAt, vectorAt}
 use Rattle.codec.proofs.FieldLaws.{onward-answered, checked-answered}
-use Rattle.codec.proofs.StandsLaws.{Stands, AllBytes, stands-nil, stands-front, stands-back, stands-join, after-both, both-stand}
+use Rattle.codec.proofs.StandsLaws.{Stands, AllBytes, stands-nil, stands-front, stands-back, after-both, both-stand}
 use Rattle.codec.proofs.NumberLaws.{number-read, number-written, number-next, signed-back, code-back, signed-small}
 
 -- ---- a signed number

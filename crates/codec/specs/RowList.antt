@@ -5,9 +5,10 @@ use mathlib.Core.List.{List, [], _∷_, _++_}
 use Prim.Native.Nat.{ℕ, zero, suc, _+_}
 use lib.Dec.{ltb, leb}
 use lib.ListN.{set}
-use Rattle.table.specs.Witness.{onlyIf, countOf, countLimit}
+use Rattle.table.specs.Witness.{countLimit}
+use Rattle.function.specs.Witness.{onlyIf, countOf}
 use Rattle.cell.specs.Refusal.{Rule, rule, answered, checked}
-use Rattle.machine.specs.Binate.{zeros}
+use Rattle.function.specs.Binate.{zeros}
 use Rattle.codec.specs.Field.{Reading, field, onward}
 use Rattle.codec.specs.Number.{numberBytes, numberAt}
 

@@ -6,21 +6,21 @@ use Prim.Native.Nat.{ℕ, _≤_}
 use lib.ListN.{getD}
 use Rattle.types.specs.declared.stage.Stage.{Stage}
 use Rattle.types.specs.declared.stage.Stage.the-variants.{Binate}
-use Rattle.table.specs.Table.{rows}
+use Rattle.table.specs.Table.{rows, functionOf}
 use Rattle.state.specs.Sound.{SoundIn}
 use Rattle.state.proofs.SoundBounds as state
 use Rattle.state.proofs.SoundLaws as test
 use Rattle.job.specs.declared.job.Job.{Job}
 use Rattle.job.specs.Machine.{stateOf}
 use Rattle.job.specs.Sound.{Sound, isSound}
-pub use Rattle.state.proofs.SoundBounds.{in-range-search, sound-current, sound-copied}
+pub use Rattle.state.proofs.SoundBounds.{in-range-search, sound-current, sound-copied, table-current, table-copied}
 
 -- the test of a sound job says so
 pub is-sound-correct : (j : Job) → isSound j ≡ true ↔ Sound j
 is-sound-correct j = test.is-sound-correct (j .table) (stateOf j)
 
 -- what a stage asks, of a job in that stage
-pub sound-in : (stage : Stage) (j : Job) → Sound j → j .stage ≡ stage → SoundIn (j .table) stage (stateOf j)
+pub sound-in : (stage : Stage) (j : Job) → Sound j → j .stage ≡ stage → SoundIn (functionOf (j .table)) stage (stateOf j)
 sound-in stage j s e = state.sound-in s stage e
 
 -- a row past the table has no count

@@ -7,6 +7,7 @@ use Rattle.types.specs.declared.stage.Stage.{Stage}
 use Rattle.types.specs.declared.state.State.{State}
 use Rattle.state.specs.Machine as machine
 use Rattle.job.specs.declared.job.Job.{Job}
+use Rattle.table.specs.Table.{functionOf}
 
 -- ---- a job, and its state
 
@@ -24,12 +25,12 @@ startJob t counts stage = jobOf t (machine.startState counts stage)
 
 -- the fresh job of a table
 unfoldable pub fresh : Table → Job
-fresh t = jobOf t (machine.fresh t)
+fresh t = jobOf t (machine.fresh (functionOf t))
 
 -- the job after a step
 unfoldable pub step : Job → Job
-step j = jobOf (j .table) (machine.step (j .table) (stateOf j))
+step j = jobOf (j .table) (machine.step (functionOf (j .table)) (stateOf j))
 
 -- the job after m steps
 unfoldable pub run : ℕ → Job → Job
-run m j = jobOf (j .table) (machine.run (j .table) m (stateOf j))
+run m j = jobOf (j .table) (machine.run (functionOf (j .table)) m (stateOf j))

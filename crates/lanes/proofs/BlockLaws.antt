@@ -20,13 +20,15 @@ use Rattle.numbers.proofs.TabulateLaws.{getD-tabulate}
 use Rattle.numbers.proofs.TestLaws.{no-true}
 use Rattle.numbers.proofs.FirstLaws.{IsFirst}
 use Rattle.types.specs.declared.table.Table.{Table}
-use Rattle.table.specs.Table.{rows, level, value}
-use Rattle.table.specs.Gate.{distance, inRange}
+use Rattle.table.specs.Table.{rows, value, functionOf}
+use Rattle.function.specs.Function.{level}
+use Rattle.table.specs.Gate.{inRange}
+use Rattle.function.specs.Gate.{distance}
 use Rattle.table.proofs.TableLaws.{level-past}
 use Rattle.types.specs.declared.vector.Vector.{Vector}
-use Rattle.machine.specs.Failing.{margin, fails, failing}
+use Rattle.function.specs.Failing.{margin, fails, failing}
 use Rattle.machine.proofs.RangeLaws.{in-range-correct, in-range-past}
-use Rattle.machine.proofs.FailingLaws.{failing-at, none-failing}
+use Rattle.function.proofs.FailingLaws.{failing-at, none-failing}
 use Rattle.lanes.specs.Blocks.{blocksOf, laneRows, laneValue}
 use Rattle.lanes.specs.Sums.{placeSum, vectorSums}
 
@@ -75,7 +77,7 @@ higher-later low high th = omega (integers, parts-sub low th, parts-add (low -�
 
 -- the distance of row 32 h + q is the sum of place q and of place 32 + h
 pub sums-distance : (v : Vector) (q h : ℕ) → q < 32 → h < 8
-    → getD (vectorSums v) q (pos 0) +ℤ getD (vectorSums v) (32 + h) (pos 0) ≡ distance (v .a) (v .b) (32 * h + q)
+    → getD (vectorSums v) q (pos 0) +ℤ getD (vectorSums v) (32 + h) (pos 0) ≡ distance (v .a) (v .b) (level 2 (32 * h + q))
 unfolding vectorSums placeSum distance
 sums-distance v q h l k =
     let back : 32 + h - 32 ≡ h = omega arith in
@@ -113,11 +115,11 @@ level-cut n r place h =
 module _ (t : Table) (v : Vector) where
   -- a row of the blocks fails
   unfoldable pub laneFails : ℕ → Bool
-  laneFails r = ltZ (margin (laneValue t r) (distance (v .a) (v .b) r)) (pos 1)
+  laneFails r = ltZ (margin (laneValue t r) (distance (v .a) (v .b) (level 2 r))) (pos 1)
 
   module _ (k : ℕ) (eight : length (v .a) ≡ 8) (range : inRange k (t .n) (v .a) (v .b) ≡ true) where
     -- a row has the distance of the row that it repeats
-    distance-cut : (r : ℕ) → distance (v .a) (v .b) r ≡ distance (v .a) (v .b) (r % rows t)
+    distance-cut : (r : ℕ) → distance (v .a) (v .b) (level 2 r) ≡ distance (v .a) (v .b) (level 2 (r % rows t))
     unfolding distance
     distance-cut r =
         ap (λ (s : ℤ). s -ℤ v .b)
@@ -131,12 +133,12 @@ module _ (t : Table) (v : Vector) where
         by place h (no below) = ap (λ (x : ℕ). pos x *ℤ getD (v .a) place (pos 0)) (level-cut (t .n) r place (omega (arith, below)))
 
     -- so it fails where that row does
-    lane-fails : (r : ℕ) → laneFails r ≡ fails t v (r % rows t)
+    lane-fails : (r : ℕ) → laneFails r ≡ fails (functionOf t) v (r % rows t)
     unfolding laneFails fails laneValue
     lane-fails r = ap (λ (d : ℤ). ltZ (margin (value t (r % rows t)) d) (pos 1)) (distance-cut r)
 
-    row-fails : (r : ℕ) → r < rows t → laneFails r ≡ fails t v r
-    row-fails r h = lane-fails r ∙ ap (fails t v) (mod-eq-of-lt h)
+    row-fails : (r : ℕ) → r < rows t → laneFails r ≡ fails (functionOf t) v r
+    row-fails r h = lane-fails r ∙ ap (fails (functionOf t) v) (mod-eq-of-lt h)
 
     -- the lowest row of the blocks that fails is one of the table's
     lane-first : (m r : ℕ) → IsFirst laneFails m 0 r → r < rows t
@@ -151,11 +153,11 @@ module _ (t : Table) (v : Vector) where
             absurd (no-true (sym passes ∙ row-fails cut small ∙ sym (lane-fails r) ∙ first .passes))
 
     -- and the table's lowest
-    pub lane-failing : (m r : ℕ) → IsFirst laneFails m 0 r → (failing t v ≡ some r) × (laneValue t r ≡ value t r)
+    pub lane-failing : (m r : ℕ) → IsFirst laneFails m 0 r → (failing (functionOf t) v ≡ some r) × (laneValue t r ≡ value t r)
     unfolding laneValue
     lane-failing m r first =
         let inside = lane-first m r first in (
-          failing-at t v r
+          failing-at (functionOf t) v r
               record {
                 start = omega arith;
                 inside = omega arith;
@@ -166,5 +168,5 @@ module _ (t : Table) (v : Vector) where
         )
 
     -- where no row of the blocks fails, no row of the table does
-    pub lanes-pass : ((r : ℕ) → r < laneRows (t .n) → laneFails r ≡ false) → failing t v ≡ none
-    lanes-pass pass = none-failing t v (λ r h. sym (row-fails r h) ∙ pass r (omega (arith, rows-lanes (t .n))))
+    pub lanes-pass : ((r : ℕ) → r < laneRows (t .n) → laneFails r ≡ false) → failing (functionOf t) v ≡ none
+    lanes-pass pass = none-failing (functionOf t) v (λ r h. sym (row-fails r h) ∙ pass r (omega (arith, rows-lanes (t .n))))

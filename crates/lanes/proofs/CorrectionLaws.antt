@@ -15,11 +15,11 @@ use Rattle.numbers.proofs.Ring.{ring}
 use Rattle.numbers.proofs.SumLaws.{sum-below-zero, sum-below-suc, weighted-sum-nil, weighted-sum-cons}
 use Rattle.numbers.specs.Tabulate.{tabulate}
 use Rattle.numbers.proofs.TabulateLaws.{length-tabulate, getD-tabulate, tabulate-ext, getD-unfilled}
-use Rattle.table.specs.Table.{level}
-use Rattle.table.specs.Gate.{distance}
+use Rattle.function.specs.Function.{level}
+use Rattle.function.specs.Gate.{distance}
 use Rattle.types.specs.declared.vector.Vector.{Vector}
-use Rattle.machine.specs.Vector.{sign, addLevels, correctedBy}
-use Rattle.machine.proofs.VectorLaws.{corrected-weights, corrected-threshold}
+use Rattle.function.specs.Vector.{sign, addLevels, correctedBy}
+use Rattle.function.proofs.VectorLaws.{corrected-weights, corrected-threshold}
 use Rattle.machine.specs.Scan.{Holds}
 use Rattle.lanes.specs.Sums.{placeSum, vectorSums}
 use Rattle.lanes.specs.Codes.{rowCode, shared, stepAt}
@@ -78,7 +78,7 @@ code-high false r = omega arith
 -- ---- the sums
 
 -- a place below 32 has the distance of its row
-place-low : (v : Vector) (q : ℕ) → q < 32 → placeSum v q ≡ distance (v .a) (v .b) q
+place-low : (v : Vector) (q : ℕ) → q < 32 → placeSum v q ≡ distance (v .a) (v .b) (level 2 q)
 unfolding placeSum
 place-low v q h = rw (lt-ltb q 32 h)
 
@@ -91,9 +91,9 @@ place-high v h =
 
 -- a sum of the weights has the sign more for each input that the rows share
 corrected-sum : (y : Bool) (r q : ℕ) (v : Vector) → length (v .a) ≡ 8
-    → weightedSum ((correctedBy y r v) .a) (level 2 q) ≡ weightedSum (v .a) (level 2 q) +ℤ pos (both r q) *ℤ sign y
+    → weightedSum ((correctedBy y (level 2 r) v) .a) (level 2 q) ≡ weightedSum (v .a) (level 2 q) +ℤ pos (both r q) *ℤ sign y
 corrected-sum y r q v eight =
-    ap (λ (l : List ℤ). weightedSum l (level 2 q)) (corrected-weights y r v)
+    ap (λ (l : List ℤ). weightedSum l (level 2 q)) (corrected-weights y (level 2 r) v)
     ∙ weighted-sum-levels (sign y) (level 2 r) (level 2 q) (v .a)
     ∙ ap (λ (n : ℕ). weightedSum (v .a) (level 2 q) +ℤ pos (sumBelow n (λ p. level 2 r p * level 2 q p)) *ℤ sign y) eight
 
@@ -103,15 +103,15 @@ with-threshold s n b z = simp ring
 
 -- a distance is added a step
 pub corrected-low : (y : Bool) (r q : ℕ) (v : Vector) → length (v .a) ≡ 8 → q < 32
-    → placeSum (correctedBy y r v) q ≡ placeSum v q +ℤ stepAt (rowCode y r % 64 * 32 + q)
+    → placeSum (correctedBy y (level 2 r) v) q ≡ placeSum v q +ℤ stepAt (rowCode y r % 64 * 32 + q)
 unfolding distance
 corrected-low y r q v eight h =
-    let w = correctedBy y r v in
+    let w = correctedBy y (level 2 r) v in
     let n = shared (r % 32) q in
     let sum = weightedSum (v .a) (level 2 q) in
     let entry = ap (λ (c : ℕ). stepAt (c * 32 + q)) (code-low y r) ∙ step-at y (r % 32) q h in
     place-low w q h
-    ∙ ap₂ _-ℤ_ (corrected-sum y r q v eight ∙ ap (λ (m : ℕ). sum +ℤ pos m *ℤ sign y) (both-low r q h)) (corrected-threshold y r v)
+    ∙ ap₂ _-ℤ_ (corrected-sum y r q v eight ∙ ap (λ (m : ℕ). sum +ℤ pos m *ℤ sign y) (both-low r q h)) (corrected-threshold y (level 2 r) v)
     ∙ with-threshold sum (pos n) (v .b) (sign y)
     ∙ sym (ap₂ _+ℤ_ (place-low v q h) entry)
 
@@ -128,9 +128,9 @@ without-threshold s n z =
 
 -- a higher inputs' sum is added a step, less the sign
 pub corrected-high : (y : Bool) (r h : ℕ) (v : Vector) → length (v .a) ≡ 8 → h < 8
-    → placeSum (correctedBy y r v) (32 + h) ≡ placeSum v (32 + h) +ℤ stepAt ((rowCode y r / 64 * 2 + rowCode y r % 2) * 32 + h) -ℤ sign y
+    → placeSum (correctedBy y (level 2 r) v) (32 + h) ≡ placeSum v (32 + h) +ℤ stepAt ((rowCode y r / 64 * 2 + rowCode y r % 2) * 32 + h) -ℤ sign y
 corrected-high y r h v eight l =
-    let w = correctedBy y r v in
+    let w = correctedBy y (level 2 r) v in
     let n = shared (r / 32) h in
     let sum = weightedSum (v .a) (level 2 (32 * h)) in
     let entry = ap (λ (c : ℕ). stepAt (c * 32 + h)) (code-high y r) ∙ step-at y (r / 32) h (omega arith) in
@@ -192,13 +192,13 @@ module _ (y : Bool) (r code : ℕ) (v : Vector) (steps : List ℤ) (eight : leng
     abbrev low : ℕ → ℤ
     low q = getD (vectorSums v) q (pos 0) +ℤ low-step q
 
-    low-is : (q : ℕ) → q < 32 → low q ≡ placeSum (correctedBy y r v) q
+    low-is : (q : ℕ) → q < 32 → low q ≡ placeSum (correctedBy y (level 2 r) v) q
     low-is q h =
         ap₂ _+ℤ_ (sums-at v q (omega arith))
         (part-at steps (code % 64 * 32) 32 q held (omega arith) h ∙ ap (λ (c : ℕ). stepAt (c % 64 * 32 + q)) is)
         ∙ sym (corrected-low y r q v eight h)
 
-    high-is : (h : ℕ) → h < 8 → getD (vectorSums v) (32 + h) (pos 0) +ℤ high-step h -ℤ sign y ≡ placeSum (correctedBy y r v) (32 + h)
+    high-is : (h : ℕ) → h < 8 → getD (vectorSums v) (32 + h) (pos 0) +ℤ high-step h -ℤ sign y ≡ placeSum (correctedBy y (level 2 r) v) (32 + h)
     high-is h l =
         ap₂ (λ (s x : ℤ). s +ℤ x -ℤ sign y) (sums-at v (32 + h) (omega arith))
         (part-at steps ((code / 64 * 2 + code % 2) * 32) 8 h held (omega arith) l
@@ -212,10 +212,10 @@ module _ (y : Bool) (r code : ℕ) (v : Vector) (steps : List ℤ) (eight : leng
 
       -- and the steps that are added to these complete the correction
       pub corrected-sums : take 32 half ++ tabulate 8 (λ h. getD half (32 + h) (pos 0) +ℤ high-step h -ℤ sign y)
-          ≡ vectorSums (correctedBy y r v)
+          ≡ vectorSums (correctedBy y (level 2 r) v)
       unfolding vectorSums
       corrected-sums =
-          let w = correctedBy y r v in
+          let w = correctedBy y (level 2 r) v in
           let first = take-at (tabulate 32 low) (drop 32 (vectorSums v)) 32 (length-tabulate low 32) in
           ap₂ _++_ (ap (take 32) e ∙ first ∙ tabulate-ext low (placeSum w) 32 low-is)
           (tabulate-ext (λ h. getD half (32 + h) (pos 0) +ℤ high-step h -ℤ sign y) (λ h. placeSum w (32 + h)) 8

@@ -12,8 +12,8 @@ use lib.Seq.{getD-set-same, getD-set-other}
 use lib.IntN.{ℤ, pos, natAbs, _+ℤ_}
 use Rattle.numbers.specs.Sum.{weightedSum}
 use Rattle.numbers.proofs.TabulateLaws.{tabulate-getD}
-use Rattle.table.specs.Table.{level}
-use Rattle.table.specs.Gate.{distance}
+use Rattle.function.specs.Function.{level}
+use Rattle.function.specs.Gate.{distance}
 use Rattle.table.proofs.TableLaws.{level-past}
 use Rattle.types.specs.declared.vector.Vector.{Vector}
 use Rattle.machine.proofs.DistanceLaws.{partner-distance}
@@ -51,7 +51,7 @@ module _ (from half : ℕ) (weight : ℤ) (old : List ℤ) where
 -- a list has the distances of the rows of the low inputs among them, and the sums of the rows of the higher ones
 pub record SumsTo (ws : List ℤ) (th : ℤ) (place : ℕ) (held : List ℤ) : Type 0 where
   pub size : length held ≡ 40
-  pub low : (q : ℕ) → q < 2 ^ min place 5 → getD held q (pos 0) ≡ distance ws th q
+  pub low : (q : ℕ) → q < 2 ^ min place 5 → getD held q (pos 0) ≡ distance ws th (level 2 q)
   pub high : (h : ℕ) → h < 2 ^ (place - 5) → getD held (32 + h) (pos 0) ≡ weightedSum ws (level 2 (32 * h))
 
 -- a sum of twice as many: one that was there, or that of a partner
@@ -93,7 +93,7 @@ module _ (ws : List ℤ) (th : ℤ) (old new : List ℤ) where
         size = d .size ∙ s .size;
         low = λ q h.
             ap (λ (i : ℕ). getD new i (pos 0)) (sym (zero-add q))
-            ∙ twice (distance ws th) 0 (2 ^ place) (getD ws place (pos 0)) old new d
+            ∙ twice (λ r. distance ws th (level 2 r)) 0 (2 ^ place) (getD ws place (pos 0)) old new d
             (λ r k. ap (λ (i : ℕ). getD old i (pos 0)) (zero-add r) ∙ s .low r (omega arith))
             (λ r k. partner-distance ws th place r (level-past {n = place} r place k (omega arith)))
             q (omega arith);
@@ -119,13 +119,13 @@ module _ (ws : List ℤ) (th : ℤ) (old new : List ℤ) where
       }
 
 -- before the first input there is row 0 alone
-pub sums-to-none : (ws : List ℤ) (th : ℤ) (held : List ℤ) → length held ≡ 40 → getD held 0 (pos 0) ≡ distance ws th 0
+pub sums-to-none : (ws : List ℤ) (th : ℤ) (held : List ℤ) → length held ≡ 40 → getD held 0 (pos 0) ≡ distance ws th (level 2 0)
     → getD held 32 (pos 0) ≡ pos 0
     → SumsTo ws th 0 held
 sums-to-none ws th held n first other =
     record { size = n; low = λ q h. row q (omega arith); high = λ h k. block h (omega arith) }
   where
-    row : (q : ℕ) → q ≡ 0 → getD held q (pos 0) ≡ distance ws th q
+    row : (q : ℕ) → q ≡ 0 → getD held q (pos 0) ≡ distance ws th (level 2 q)
     row q e = rw e first
 
     block : (h : ℕ) → h ≡ 0 → getD held (32 + h) (pos 0) ≡ weightedSum ws (level 2 (32 * h))
@@ -147,7 +147,7 @@ sums-to-all v held s = tabulate-getD (placeSum v) 40 (pos 0) held (s .size) (λ 
 
 module _ (v : Vector) (m : ℕ) (eight : length (v .a) ≡ 8) (small : magnitude v ≤ m) where
   -- the distance of a row of five inputs
-  low-size : (q : ℕ) → q < 32 → natAbs (distance (v .a) (v .b) q) ≤ m
+  low-size : (q : ℕ) → q < 32 → natAbs (distance (v .a) (v .b) (level 2 q)) ≤ m
   low-size q l = rw (← sums-low v q l) (omega (arith, sums-narrow v m eight small q 0 l (omega arith)))
 
   -- the sum of a row of the higher inputs

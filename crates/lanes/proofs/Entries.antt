@@ -11,9 +11,9 @@ use lib.IntN.{ℤ, pos}
 use Rattle.numbers.proofs.TestLaws.{and-left, and-right}
 use Rattle.numbers.specs.Tabulate.{tabulate}
 use Rattle.numbers.proofs.TabulateLaws.{filled, getD-unfilled}
-use Rattle.machine.specs.Vector.{sameZ}
+use Rattle.function.specs.Vector.{sameZ}
 use Rattle.machine.specs.Scan.{Holds}
-use Rattle.machine.proofs.VectorLaws.{same-z-correct}
+use Rattle.function.proofs.VectorLaws.{same-z-correct}
 
 -- each entry is f at its place, counted from i
 unfoldable pub agrees : (ℕ → ℤ) → ℕ → List ℤ → Bool

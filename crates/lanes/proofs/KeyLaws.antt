@@ -22,7 +22,7 @@ use Rattle.numbers.proofs.Int.{integers, parts-neg, parts-add, parts-sub, ≤�
 use Rattle.numbers.proofs.TestLaws.{no-true, not-passed}
 use Rattle.numbers.proofs.FirstLaws.{IsFirst, first-some, first-none}
 use Rattle.types.specs.declared.table.Table.{Table}
-use Rattle.machine.specs.Failing.{margin}
+use Rattle.function.specs.Failing.{margin}
 use Rattle.machine.specs.Scan.{Holds}
 use Rattle.lanes.specs.Blocks.{laneValue}
 use Rattle.lanes.specs.Codes.{rowCode, oneOf, keyOf}

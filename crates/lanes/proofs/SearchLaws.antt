@@ -12,9 +12,10 @@ use lib.IntN.{ℤ, pos, natAbs, _+ℤ_, _-ℤ_}
 use lib.Signed.{ltZ}
 use Rattle.numbers.proofs.FirstLaws.{IsFirst}
 use Rattle.types.specs.declared.table.Table.{Table}
-use Rattle.table.specs.Gate.{distance, inRange}
+use Rattle.table.specs.Gate.{inRange}
+use Rattle.function.specs.Gate.{distance}
 use Rattle.types.specs.declared.vector.Vector.{Vector}
-use Rattle.machine.specs.Failing.{failing}
+use Rattle.function.specs.Failing.{failing}
 use Rattle.machine.specs.Scan.{Holds}
 use Rattle.lanes.specs.Blocks.{blocksOf, laneRows, laneValue}
 use Rattle.lanes.specs.Sums.{vectorSums, Narrow}
@@ -22,6 +23,8 @@ use Rattle.lanes.specs.Codes.{rowCode, foundCode, oneOf, keyOf}
 use Rattle.lanes.specs.Keys.{leastBelow, blockKey}
 use Rattle.lanes.proofs.KeyLaws.{keyed, one-size, turned-back, row-key, least-passes, least-fails}
 use Rattle.lanes.proofs.BlockLaws.{blocks-le, sums-distance, laneFails, lane-failing, lanes-pass}
+use Rattle.table.specs.Table.{functionOf}
+use Rattle.function.specs.Function.{level}
 
 -- ---- the parts of a block
 
@@ -80,7 +83,7 @@ Answers t sums code =
     (k : ℕ) (v : Vector) → length (v .a) ≡ 8
     → inRange k (t .n) (v .a) (v .b) ≡ true
     → sums ≡ vectorSums v
-    → code ≡ foundCode t (failing t v)
+    → code ≡ foundCode t (failing (functionOf t) v)
 
 -- the least key of block h
 abbrev pub leastAt : List ℤ → List ℤ → List ℤ → ℕ → ℤ
@@ -110,7 +113,7 @@ module _ (t : Table) (sums ones keys : List ℤ) (few : t .n ≤ 8)
             let split = ap (λ (l : List ℤ). getD l q (pos 0) +ℤ getD l (32 + h) (pos 0)) is ∙ sums-distance v q h l within in
             let one = part-holds (oneOf t) (blocksOf (t .n)) h ones inside hold-ones q l in
             let key = part-holds (keyOf t) (blocksOf (t .n)) h keys inside hold-keys q l in
-            rw (split, one, key) (row-key t (32 * h + q) (distance (v .a) (v .b) (32 * h + q)) (omega arith))
+            rw (split, one, key) (row-key t (32 * h + q) (distance (v .a) (v .b) (level 2 (32 * h + q))) (omega arith))
 
         code-small : (q : ℕ) → q < 32 → blockCode t h q < 32768
         code-small q l = omega (arith, inside, blocks-le (t .n) few, code-bounds (laneValue t (32 * h + q)) (32 * h + q))

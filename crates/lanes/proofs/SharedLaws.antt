@@ -7,7 +7,7 @@ use native.Mathlib.Omega.{arith}
 use lib.Pow.{shr-shr, field, mod-mod-pow}
 use Rattle.numbers.specs.Sum.{sumBelow}
 use Rattle.numbers.proofs.SumLaws.{sum-below-suc, sum-below-ext, sum-below-most}
-use Rattle.table.specs.Table.{level}
+use Rattle.function.specs.Function.{level}
 use Rattle.table.proofs.TableLaws.{level-lt, level-past}
 use Rattle.lanes.specs.Codes.{shared}
 

@@ -16,13 +16,13 @@ use Rattle.numbers.specs.Sum.{sumBelow, weightedSum}
 use Rattle.numbers.proofs.Int.{natAbs-parts, parts-neg, size-add, size-mul, up, dn}
 use Rattle.numbers.proofs.SumLaws.{sum-below-suc, sum-below-add, sum-below-le, sum-below-term, sum-below-most, weighted-sum-nil, weighted-sum-suc, weighted-sum-ext, weighted-sum-zero}
 use Rattle.numbers.proofs.TabulateLaws.{length-tabulate, getD-tabulate}
-use Rattle.table.specs.Table.{level}
-use Rattle.table.specs.Gate.{distance}
-use Rattle.table.specs.Witness.{inputLevel}
+use Rattle.function.specs.Function.{level}
+use Rattle.function.specs.Gate.{distance}
+use Rattle.function.specs.Witness.{inputLevel}
 use Rattle.table.proofs.TableLaws.{level-lt, level-past}
 use Rattle.types.specs.declared.vector.Vector.{Vector}
-use Rattle.machine.specs.Vector.{sign, component, correctedBy}
-use Rattle.machine.proofs.VectorLaws.{component-corrected}
+use Rattle.function.specs.Vector.{sign, component, correctedBy}
+use Rattle.function.proofs.VectorLaws.{component-corrected}
 use Rattle.machine.proofs.DistanceLaws.{partner-distance}
 use Rattle.lanes.specs.Sums.{placeSum, vectorSums, magnitude, Narrow}
 
@@ -39,7 +39,7 @@ unfolding vectorSums
 sums-at v q h = getD-tabulate (placeSum v) 40 q (pos 0) h
 
 -- the first 32 are the distances of the rows of five inputs
-pub place-low : (v : Vector) (q : ℕ) → q < 32 → placeSum v q ≡ distance (v .a) (v .b) q
+pub place-low : (v : Vector) (q : ℕ) → q < 32 → placeSum v q ≡ distance (v .a) (v .b) (level 2 q)
 unfolding placeSum
 place-low v q h = rw (lt-ltb q 32 h)
 
@@ -50,7 +50,7 @@ place-high v h =
     let back : 32 + h - 32 ≡ h = omega arith in
     rw (le-ltb (32 + h) 32 (omega arith)) (ap (λ (x : ℕ). weightedSum (v .a) (level 2 (32 * x))) back)
 
-pub sums-low : (v : Vector) (q : ℕ) → q < 32 → getD (vectorSums v) q (pos 0) ≡ distance (v .a) (v .b) q
+pub sums-low : (v : Vector) (q : ℕ) → q < 32 → getD (vectorSums v) q (pos 0) ≡ distance (v .a) (v .b) (level 2 q)
 sums-low v q h = sums-at v q (omega arith) ∙ place-low v q h
 
 pub sums-high : (v : Vector) (h : ℕ) → h < 8 → getD (vectorSums v) (32 + h) (pos 0) ≡ weightedSum (v .a) (level 2 (32 * h))
@@ -72,7 +72,7 @@ pub shifted-one : (k : ℕ) → k < 64 → 1 * 2 ^ k % 2 ^ 64 ≡ 2 ^ k
 shifted-one k l = rw one-mul (mod-eq-of-lt (pow-lt l))
 
 -- a weighted sum is a distance from 0
-sum-distance : (ws : List ℤ) (r : ℕ) → distance ws (pos 0) r ≡ weightedSum ws (level 2 r)
+sum-distance : (ws : List ℤ) (r : ℕ) → distance ws (pos 0) (level 2 r) ≡ weightedSum ws (level 2 r)
 unfolding distance
 sum-distance ws r = +ℤ-idr (weightedSum ws (level 2 r))
 
@@ -159,7 +159,7 @@ sizes-apart ws l k apart =
     )
 
 -- the distance of a row is at most the size of b and that of the row's weights
-distance-sizes : (ws : List ℤ) (th : ℤ) (q : ℕ) → length ws ≡ 8 → natAbs (distance ws th q) ≤ natAbs th + sizes ws (level 2 q)
+distance-sizes : (ws : List ℤ) (th : ℤ) (q : ℕ) → length ws ≡ 8 → natAbs (distance ws th (level 2 q)) ≤ natAbs th + sizes ws (level 2 q)
 unfolding distance
 distance-sizes ws th q eight =
     let s = weightedSum ws (level 2 q) in
@@ -200,23 +200,23 @@ sign-size : (y : Bool) → up (sign y) + dn (sign y) ≡ 1
 sign-size true = refl
 sign-size false = refl
 
-input-level-le : (r i : ℕ) → inputLevel r i ≤ 1
+input-level-le : (r i : ℕ) → inputLevel (level 2 r) i ≤ 1
 input-level-le r zero = omega arith
 input-level-le r (suc place) = omega (arith, level-lt r place)
 
 -- a correction adds at most 1 to the size of a component
 component-size : (y : Bool) (r : ℕ) (v : Vector) (i : ℕ) → i ≤ length (v .a)
-    → natAbs (component (correctedBy y r v) i) ≤ natAbs (component v i) + 1
+    → natAbs (component (correctedBy y (level 2 r) v) i) ≤ natAbs (component v i) + 1
 component-size y r v i h =
     let old = component v i in
-    let more = sign y *ℤ pos (inputLevel r i) in
-    rw (component-corrected y r v i h)
+    let more = sign y *ℤ pos (inputLevel (level 2 r) i) in
+    rw (component-corrected y (level 2 r) v i h)
     (omega (
       arith,
       natAbs-parts old,
       natAbs-parts (old +ℤ more),
       size-add old more,
-      rw (sign-size y) at (size-mul (sign y) (pos (inputLevel r i))),
+      rw (sign-size y) at (size-mul (sign y) (pos (inputLevel (level 2 r) i))),
       input-level-le r i,
     ))
 
@@ -224,10 +224,10 @@ neg-size : (z : ℤ) → natAbs (negℤ z) ≡ natAbs z
 neg-size z = omega (arith, natAbs-parts z, natAbs-parts (negℤ z), parts-neg z)
 
 -- a correction adds at most 9 to the size of a vector: 1 for b and for each weight
-pub magnitude-corrected : (y : Bool) (r : ℕ) (v : Vector) → length (v .a) ≡ 8 → magnitude (correctedBy y r v) ≤ magnitude v + 9
+pub magnitude-corrected : (y : Bool) (r : ℕ) (v : Vector) → length (v .a) ≡ 8 → magnitude (correctedBy y (level 2 r) v) ≤ magnitude v + 9
 unfolding magnitude
 magnitude-corrected y r v eight =
-    let next = correctedBy y r v in
+    let next = correctedBy y (level 2 r) v in
     omega (
       arith,
       component-size y r v 0 (omega arith),

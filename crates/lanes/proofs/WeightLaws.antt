@@ -10,11 +10,11 @@ use lib.Seq.{ext-getD}
 use lib.IntN.{ℤ, pos, _+ℤ_, _-ℤ_, +ℤ-idl}
 use Rattle.numbers.specs.Sum.{weightedSum}
 use Rattle.numbers.proofs.Int.{integers, parts-add, parts-sub}
-use Rattle.table.specs.Table.{level}
-use Rattle.table.specs.Gate.{distance}
+use Rattle.function.specs.Function.{level}
+use Rattle.function.specs.Gate.{distance}
 use Rattle.table.proofs.TableLaws.{level-past}
 use Rattle.types.specs.declared.vector.Vector.{Vector}
-use Rattle.machine.proofs.VectorLaws.{vector-eq}
+use Rattle.function.proofs.VectorLaws.{vector-eq}
 use Rattle.machine.proofs.RangeLaws.{InRange, in-range-past}
 use Rattle.machine.proofs.DistanceLaws.{partner-distance, distance-zero}
 use Rattle.lanes.specs.Sums.{vectorSums}
@@ -26,9 +26,9 @@ pub low-weight : (v : Vector) (place : ℕ) → place < 5
     → getD (v .a) place (pos 0) ≡ getD (vectorSums v) (2 ^ place) (pos 0) -ℤ getD (vectorSums v) 0 (pos 0)
 low-weight v place l =
     let half : 2 ^ place ≤ 16 = pow-mono {j = 4} (omega arith) in
-    let d = distance (v .a) (v .b) 0 in
+    let d = distance (v .a) (v .b) (level 2 0) in
     let w = getD (v .a) place (pos 0) in
-    let alone : distance (v .a) (v .b) (2 ^ place) ≡ d +ℤ w =
+    let alone : distance (v .a) (v .b) (level 2 (2 ^ place)) ≡ d +ℤ w =
     rw zero-add at (partner-distance (v .a) (v .b) place 0 (level-past {n = 0} 0 place (omega arith) (omega arith))) in
     rw (sums-low v (2 ^ place) (omega arith), sums-low v 0 (omega arith), alone) (less d w)
   where

@@ -1,15 +1,16 @@
 -- Numbers that stand for rows in the fast form of a step: the code of a row has its value, so that the sign of its correction needs no look
 -- at the table; keys are ordered as the rows are; and the table of steps says what a correction adds. For the inside of the machine alone.
 -- Definitions only. Assumes nothing.
-use mathlib.Core.Bool.{Bool, true, false, cond}
+use mathlib.Core.Bool.{Bool, cond}
 use mathlib.Core.Option.{Option, some, none}
 use Prim.Native.Nat.{ℕ, _+_, _*_, _/_, _%_}
 use lib.Dec.{eqb}
 use lib.IntN.{ℤ, pos, _-ℤ_, _*ℤ_}
 use Rattle.numbers.specs.Sum.{sumBelow}
 use Rattle.types.specs.declared.table.Table.{Table}
-use Rattle.table.specs.Table.{level, value}
-use Rattle.machine.specs.Vector.{sign}
+use Rattle.table.specs.Table.{value}
+use Rattle.function.specs.Function.{level}
+use Rattle.function.specs.Vector.{sign}
 use Rattle.lanes.specs.Blocks.{laneValue}
 
 -- the code of a row: twice its number, and 1 if it is true

@@ -9,13 +9,13 @@ use lib.ListN.{length, getD}
 use lib.IntN.{ℤ, pos, natAbs, _+ℤ_}
 use Rattle.numbers.specs.Sum.{sumBelow, weightedSum}
 use Rattle.numbers.specs.Tabulate.{tabulate}
-use Rattle.table.specs.Table.{level}
-use Rattle.table.specs.Gate.{distance}
+use Rattle.function.specs.Function.{level}
+use Rattle.function.specs.Gate.{distance}
 use Rattle.types.specs.declared.vector.Vector.{Vector}
 
 -- place q: below 32 the distance of row q; from 32 on what the true inputs of row 32 (q − 32) add up to, which are higher ones alone
 unfoldable pub placeSum : Vector → ℕ → ℤ
-placeSum v q = cond (ltb q 32) (distance (v .a) (v .b) q) (weightedSum (v .a) (level 2 (32 * (q - 32))))
+placeSum v q = cond (ltb q 32) (distance (v .a) (v .b) (level 2 q)) (weightedSum (v .a) (level 2 (32 * (q - 32))))
 
 -- the 40 sums of a vector
 unfoldable pub vectorSums : Vector → List ℤ

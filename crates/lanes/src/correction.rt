@@ -7,10 +7,11 @@ ghost use lib.ListN.{length, getD, take, drop};
 ghost use lib.IntN.{pos, natAbs, _+ℤ_, _-ℤ_};
 ghost use Rattle.numbers.specs.Tabulate.{tabulate};
 ghost use Rattle.types.specs.declared.vector.Vector.{Vector};
-ghost use Rattle.machine.specs.Vector.{correctedBy};
+ghost use Rattle.function.specs.Vector.{correctedBy, sign};
 ghost use Rattle.machine.specs.Scan.{Holds};
 ghost use Rattle.lanes.specs.Sums.{vectorSums, Narrow};
 ghost use Rattle.lanes.specs.Codes.{rowCode, stepAt};
+ghost use Rattle.function.specs.Function.{level};
 
 // Adds a step to the distance of each row of five inputs.
 fn add_low(sums: &mut [i16], steps: &[i16])
@@ -43,7 +44,7 @@ fn add_high(sums: &mut [i16], steps: &[i16], sign: i16)
 // Corrects the vector of the sums by the row of a code.
 pub fn correct(sums: &mut [i16; 40], steps: &[i16; 2048], code: usize)
     requires { ⌜ (code < 512) × Holds stepAt 2048 (now steps) × Narrow 32000 (now sums) ⌝ }
-    ensures { λ r. ⌜ ((v : Vector) (y : Bool) (row : ℕ) → length (v .a) ≡ 8 → row < 256 → code ≡ rowCode y row → now (sums .entry) ≡ vectorSums v → now (sums .exit) ≡ vectorSums (correctedBy y row v)) ⌝ }
+    ensures { λ r. ⌜ ((v : Vector) (y : Bool) (row : ℕ) → length (v .a) ≡ 8 → row < 256 → code ≡ rowCode y row → now (sums .entry) ≡ vectorSums v → now (sums .exit) ≡ vectorSums (correctedBy y (level 2 row) v)) ⌝ }
 {
     let low = (code % 64) * 32;
     let low_end = low + 32;

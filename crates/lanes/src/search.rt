@@ -9,12 +9,13 @@ ghost use lib.IntN.{pos, natAbs, _+ℤ_};
 ghost use lib.Signed.{ltZ};
 ghost use Rattle.table.specs.Gate.{inRange};
 ghost use Rattle.types.specs.declared.vector.Vector.{Vector};
-ghost use Rattle.machine.specs.Failing.{failing};
+ghost use Rattle.function.specs.Failing.{failing};
 ghost use Rattle.machine.specs.Scan.{Holds};
 ghost use Rattle.lanes.specs.Blocks.{laneRows};
 ghost use Rattle.lanes.specs.Sums.{vectorSums, Narrow};
 ghost use Rattle.lanes.specs.Codes.{foundCode, oneOf, keyOf};
 ghost use Rattle.lanes.specs.Keys.{leastBelow, blockKey};
+ghost use Rattle.table.specs.Table.{functionOf};
 
 // Returns the least key of a block. The sign of a row's difference is turned into its key, which is negative where the row fails.
 fn least_key(sums: &[i16; 40], high: i16, ones: &[i16], keys: &[i16]) -> i16
@@ -44,7 +45,7 @@ fn code_of(key: i16) -> usize
 pub fn lowest(sums: &[i16; 40], ones: &[i16; 256], keys: &[i16; 256], table: Table) -> usize
     requires { ⌜ (table .n ≤ 8) × Holds (oneOf table) (laneRows (table .n)) (now ones) × Holds (keyOf table) (laneRows (table .n)) (now keys) ⌝ }
     requires { ⌜ Narrow 32000 (now sums) × (getD (now sums) 32 (pos 0) ≡ pos 0) ⌝ }
-    ensures { λ r. ⌜ ((k : ℕ) (v : Vector) → length (v .a) ≡ 8 → inRange k (table .n) (v .a) (v .b) ≡ true → now (sums .entry) ≡ vectorSums v → r ≡ foundCode table (failing table v)) ⌝ }
+    ensures { λ r. ⌜ ((k : ℕ) (v : Vector) → length (v .a) ≡ 8 → inRange k (table .n) (v .a) (v .b) ≡ true → now (sums .entry) ≡ vectorSums v → r ≡ foundCode table (failing (functionOf table) v)) ⌝ }
 {
     let all_ones = &ones[..];
     let all_keys = &keys[..];

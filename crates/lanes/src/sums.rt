@@ -7,7 +7,7 @@ ghost use Prim.Native.Nat.{ℕ, _+_, _^_, _≤_, _<_};
 ghost use lib.ListN.{length, getD};
 ghost use lib.IntN.{pos, natAbs, _+ℤ_};
 ghost use Rattle.table.specs.Gate.{inRange};
-ghost use Rattle.machine.specs.Vector.{sameVector};
+ghost use Rattle.function.specs.Vector.{sameVector};
 ghost use Rattle.lanes.specs.Sums.{magnitude, vectorSums, Doubled};
 
 // Stores, for each of the `half` sums from a place on, that sum with one weight more, `half` places further.

@@ -3,13 +3,13 @@ use cell::refusal::Status;
 use job::job::Job;
 use records::read::Kind;
 use records::reader::read;
-use records::write::Written;
-use records::write::save;
 use samples::compare::same_job;
 use samples::parts::first_bytes;
 use samples::parts::least;
 use samples::tally;
 use samples::tally::Tally;
+use writers::write::Written;
+use writers::write::save;
 
 // The job after some calls, the sum of the budgets that were accepted and of the corrections that were reported, and the numbers that
 // each of the two calls gave.

@@ -1,51 +1,20 @@
--- Laws of the distance of a row: the partner of a row that lacks an input has the row's levels and that input besides, so its distance is the
--- row's and the input's weight; the distance of row 0; and the size of a distance. Assumes nothing.
-use mathlib.Core.Path.{_≡_, sym, _∙_, ap}
+-- Laws of the distance of a table's row: the partner of a row that lacks an input has the row's levels and that input besides, so its distance
+-- is the row's and the input's weight; the distance of row 0; and the size of a distance. Assumes nothing.
+use mathlib.Core.Path.{_≡_, _∙_, ap}
 use mathlib.Core.List.{List, [], _∷_}
-use Prim.Native.Nat.{ℕ, zero, suc, _+_, _*_, _/_, _%_, _^_, _≤_, _<_}
-use native.Mathlib.Nat.{add-zero}
-use native.Mathlib.Numerals.{one-add}
+use Prim.Native.Nat.{ℕ, zero, suc, _+_, _*_, _^_, _≤_, _<_}
 use native.Mathlib.Omega.{arith}
-use lib.Pow.{shr-shr}
 use lib.ListN.{length, getD}
 use lib.IntN.{ℤ, pos, negℤ, _+ℤ_, _-ℤ_, zero-*ℤ, +ℤ-idl, +ℤ-idr}
 use Rattle.numbers.specs.Sum.{weightedSum}
 use Rattle.numbers.proofs.Int.{integers, up, dn, natAbs-parts, parts-add, parts-sub, parts-neg, size-add}
 use Rattle.numbers.proofs.Ring.{*ℤ-idl}
 use Rattle.numbers.proofs.SumLaws.{weighted-sum-nil, weighted-sum-cons, weighted-sum-ext, weighted-sum-zero, weighted-sum-add, weighted-sum-size}
-use Rattle.table.specs.Table.{level}
-use Rattle.table.specs.Gate.{distance}
-use Rattle.table.proofs.TableLaws.{level-lt, level-past}
+use Rattle.function.specs.Function.{level}
+use Rattle.function.specs.Gate.{distance}
+use Rattle.table.proofs.TableLaws.{level-lt, level-past, partner-level}
+use Rattle.function.proofs.FunctionLaws.{unit}
 use Rattle.machine.proofs.RangeLaws.{InRange, in-range-at}
-
--- levels after the first are those of half the row
-level-halved : (r place : ℕ) → level 2 r (suc place) ≡ level 2 (r / 2) place
-level-halved r place = ap (λ (x : ℕ). x % 2) (sym (shr-shr r 1 place ∙ ap (λ (x : ℕ). r / 2 ^ x) (one-add place)))
-
--- 1 at a place, and 0 at the others
-abbrev pub unit : ℕ → ℕ → ℕ
-unit zero zero = 1
-unit zero (suc other) = 0
-unit (suc place) zero = 0
-unit (suc place) (suc other) = unit place other
-
--- a row that lacks an input has a partner with the same levels, and that input besides
-pub partner-level : (place other r : ℕ) → level 2 r place ≡ 0 → level 2 (r + 2 ^ place) other ≡ level 2 r other + unit place other
-partner-level zero zero r e = omega arith
-partner-level zero (suc other) r e =
-    level-halved (r + 1) other ∙ ap (λ (x : ℕ). level 2 x other) half ∙ sym (level-halved r other) ∙ sym (add-zero (level 2 r (suc other)))
-  where
-    half : (r + 1) / 2 ≡ r / 2
-    half = omega arith
-partner-level (suc place) zero r e = omega arith
-partner-level (suc place) (suc other) r e =
-    level-halved (r + 2 ^ suc place) other
-    ∙ ap (λ (x : ℕ). level 2 x other) half
-    ∙ partner-level place other (r / 2) (sym (level-halved r place) ∙ e)
-    ∙ ap (λ (x : ℕ). x + unit place other) (sym (level-halved r other))
-  where
-    half : (r + 2 ^ suc place) / 2 ≡ r / 2 + 2 ^ place
-    half = omega arith
 
 -- the level 1 at one place alone sums to its weight
 weighted-sum-unit : (ws : List ℤ) (place : ℕ) → weightedSum ws (unit place) ≡ getD ws place (pos 0)
@@ -59,7 +28,7 @@ less-later s w th = omega (integers, parts-add s w, parts-sub (s +ℤ w) th, par
 
 -- a partner's distance is the row's and the weight of the input
 pub partner-distance : (ws : List ℤ) (th : ℤ) (place r : ℕ) → level 2 r place ≡ 0
-    → distance ws th (r + 2 ^ place) ≡ distance ws th r +ℤ getD ws place (pos 0)
+    → distance ws th (level 2 (r + 2 ^ place)) ≡ distance ws th (level 2 r) +ℤ getD ws place (pos 0)
 unfolding distance
 partner-distance ws th place r e =
     ap (λ (s : ℤ). s -ℤ th)
@@ -69,7 +38,7 @@ partner-distance ws th place r e =
     ∙ less-later (weightedSum ws (level 2 r)) (getD ws place (pos 0)) th
 
 -- row 0 has no true input
-pub distance-zero : (ws : List ℤ) (th : ℤ) → distance ws th 0 ≡ pos 0 -ℤ th
+pub distance-zero : (ws : List ℤ) (th : ℤ) → distance ws th (level 2 0) ≡ pos 0 -ℤ th
 unfolding distance
 distance-zero ws th =
     let none = weighted-sum-ext ws (level 2 0) (λ place. 0) (λ place h. level-past {n = 0} 0 place (omega arith) (omega arith)) in
@@ -77,7 +46,7 @@ distance-zero ws th =
 
 -- a distance of eight weights in range is at most nine times the limit in size
 pub distance-size : (limit n : ℕ) (ws : List ℤ) (th : ℤ) (r : ℕ) → length ws ≡ 8 → InRange limit n ws th
-    → up (distance ws th r) + dn (distance ws th r) ≤ 9 * limit
+    → up (distance ws th (level 2 r)) + dn (distance ws th (level 2 r)) ≤ 9 * limit
 unfolding distance
 distance-size limit n ws th r eight f =
     let most = weighted-sum-size ws (level 2 r) 1 limit (λ place h. omega (arith, level-lt r place)) size in

@@ -12,7 +12,8 @@ use lib.Dec.{eqb, ltb}
 use lib.ListN.{getD}
 use lib.Pow.{pow-pos, pow-add, pow-mono, shl-exact, shr-shr}
 use borrow.Author.Tests.{eqb-true, lt-ltb, le-ltb}
-use Rattle.table.specs.Table.{level, bitAt}
+use Rattle.table.specs.Table.{bitAt}
+use Rattle.function.specs.Function.{level}
 use Rattle.table.proofs.TableLaws.{partner-below}
 use Rattle.machine.specs.Words.{packed, wordOf, bitsFrom, inTable, lacks, ownAt, partnerAt}
 use Rattle.machine.proofs.WordLaws.{packed-ext, packed-and, packed-none, packed-append, packed-digits, packed-cut, packed-shift}

@@ -13,12 +13,12 @@ use lib.Signed.{leZ}
 use borrow.Author.Tests.{le-ltb, ltb-false}
 use Rattle.numbers.proofs.Int.{integers, up, dn, natAbs-parts, parts-neg, one-part, size-add, size-mul}
 use Rattle.numbers.proofs.TestLaws.{and-left, and-right, and-both, all-below-at, all-below-from}
-use Rattle.table.specs.Table.{level}
 use Rattle.table.specs.Gate.{within, placeLimit, inRange}
-use Rattle.table.proofs.TableLaws.{level-lt, level-past}
 use Rattle.types.specs.declared.vector.Vector.{Vector}
-use Rattle.machine.specs.Vector.{sign, correctedBy, zeroVector}
-use Rattle.machine.proofs.VectorLaws.{corrected-weights, corrected-threshold, getD-add-levels}
+use Rattle.function.specs.Function.{level}
+use Rattle.table.proofs.TableLaws.{level-lt, level-past}
+use Rattle.function.specs.Vector.{sign, correctedBy, zeroVector}
+use Rattle.function.proofs.VectorLaws.{corrected-weights, corrected-threshold, getD-add-levels}
 
 -- the threshold lies within ±limit, and so do the n first of eight places; the others hold 0
 pub record InRange (limit n : ℕ) (ws : List ℤ) (th : ℤ) : Type 0 where
@@ -108,17 +108,24 @@ signed-size z y x =
 threshold-size : (z : ℤ) (y : Bool) → natAbs (z -ℤ sign y) ≤ natAbs z + 1
 threshold-size z y = omega (arith, natAbs-parts z, natAbs-parts (z -ℤ sign y), size-add z (negℤ (sign y)), parts-neg (sign y), sign-size y)
 
--- a correction by a row of n inputs widens the range by 1
-pub corrected-in-range : (limit n : ℕ) (y : Bool) (r : ℕ) (v : Vector) → r < 2 ^ n → length (v .a) ≡ 8 → InRange limit n (v .a) (v .b)
-    → InRange (limit + 1) n ((correctedBy y r v) .a) ((correctedBy y r v) .b)
-corrected-in-range limit n y r v h eight f = record {
-  threshold = rw (corrected-threshold y r v) (omega (arith, threshold-size (v .b) y, f .threshold));
-  places = λ place l.
-      rw (corrected-weights y r v, getD-add-levels (sign y) (level 2 r) (v .a) place (omega arith))
+-- a correction by levels of at most `top`, with n places, widens the range by `top`
+pub corrected-in-range : (limit top n : ℕ) (y : Bool) (l : ℕ → ℕ) (v : Vector) → 1 ≤ top → ((place : ℕ) → l place ≤ top)
+    → ((place : ℕ) → n ≤ place → l place ≡ 0) → length (v .a) ≡ 8 → InRange limit n (v .a) (v .b)
+    → InRange (limit + top) n ((correctedBy y l v) .a) ((correctedBy y l v) .b)
+corrected-in-range limit top n y l v some low past eight f = record {
+  threshold = rw (corrected-threshold y l v) (omega (arith, threshold-size (v .b) y, f .threshold));
+  places = λ place h.
+      rw (corrected-weights y l v, getD-add-levels (sign y) l (v .a) place (omega arith))
       (omega (
         arith,
-        signed-size (getD (v .a) place (pos 0)) y (level 2 r place),
-        f .places place l,
-        place-limit-more limit (limit + 1) n place (level 2 r place) (omega (arith, level-lt r place)) (level-past r place h),
+        signed-size (getD (v .a) place (pos 0)) y (l place),
+        f .places place h,
+        place-limit-more limit (limit + top) n place (l place) (omega (arith, low place)) (past place),
       ));
 }
+
+-- so one by a row of n inputs of a table widens it by 1
+pub row-in-range : (limit n : ℕ) (y : Bool) (r : ℕ) (v : Vector) → r < 2 ^ n → length (v .a) ≡ 8 → InRange limit n (v .a) (v .b)
+    → InRange (limit + 1) n ((correctedBy y (level 2 r) v) .a) ((correctedBy y (level 2 r) v) .b)
+row-in-range limit n y r v h =
+    corrected-in-range limit 1 n y (level 2 r) v (omega arith) (λ place. omega (arith, level-lt r place)) (λ place k. level-past r place h k)

@@ -20,15 +20,16 @@ use Rattle.numbers.proofs.FirstLaws.{IsFirst, first-some, first-none}
 use Rattle.numbers.proofs.TabulateLaws.{getD-tabulate}
 use Rattle.types.specs.declared.table.Table.{Table}
 use Rattle.table.specs.declared.inputs.Found.the-variants.{Row, Nowhere}
-use Rattle.table.specs.Table.{rows, value}
-use Rattle.table.specs.Gate.{distance}
+use Rattle.table.specs.Table.{rows, value, functionOf}
+use Rattle.function.specs.Gate.{distance}
 use Rattle.table.specs.Inputs.{found}
 use Rattle.table.proofs.TableLaws.{rows-le, level-past}
 use Rattle.types.specs.declared.vector.Vector.{Vector}
-use Rattle.machine.specs.Failing.{margin, fails, failing}
-use Rattle.machine.specs.Scan.{failsAt, Holds, doubled}
+use Rattle.function.specs.Failing.{margin, fails, failing}
+use Rattle.machine.specs.Scan.{rowDistance, failsAt, Holds, doubled}
 use Rattle.machine.proofs.DistanceLaws.{partner-distance}
-use Rattle.machine.proofs.FailingLaws.{failing-at, none-failing}
+use Rattle.function.proofs.FailingLaws.{failing-at, none-failing}
+use Rattle.function.specs.Function.{level}
 
 -- ---- distances that a list holds
 
@@ -88,13 +89,13 @@ abbrev pub blockSearch : List Bool → List ℤ → ℕ → List ℤ → Option 
 blockSearch values ws place held = firstFrom (failsAt values (blockDistance ws place held)) (2 ^ place) (2 ^ place)
 
 module _ (ws : List ℤ) (th : ℤ) (values : List Bool) (place : ℕ) (held : List ℤ)
-    (passed : Passed values (distance ws th) 0 (2 ^ place) held)
+    (passed : Passed values (rowDistance ws th) 0 (2 ^ place) held)
   where
     -- the rows before the block and in it have their distances
-    block-distance : (r : ℕ) → r < 2 ^ suc place → blockDistance ws place held r ≡ distance ws th r
+    block-distance : (r : ℕ) → r < 2 ^ suc place → blockDistance ws place held r ≡ distance ws th (level 2 r)
     block-distance r h = by (decLe (2 ^ place) r)
       where
-        by : Dec (2 ^ place ≤ r) → blockDistance ws place held r ≡ distance ws th r
+        by : Dec (2 ^ place ≤ r) → blockDistance ws place held r ≡ distance ws th (level 2 r)
         by (yes high) =
             let q = r - 2 ^ place in
             let below : q < 2 ^ place = omega arith in
@@ -104,28 +105,28 @@ module _ (ws : List ℤ) (th : ℤ) (values : List Bool) (place : ℕ) (held : L
             ∙ doubled-high (2 ^ place) (getD ws place (pos 0)) held q
             ∙ ap (λ (z : ℤ). z +ℤ getD ws place (pos 0)) (passed .holds q below)
             ∙ sym (partner-distance ws th place q (level-past {n = place} q place below (omega arith)))
-            ∙ ap (distance ws th) partner
+            ∙ ap (rowDistance ws th) partner
         by (no low) =
             let below : r < 2 ^ place = omega (arith, low) in
             doubled-low (2 ^ place) (getD ws place (pos 0)) held r below ∙ passed .holds r below
 
     -- so they fail in the block as they do by their distances
-    block-fails : (r : ℕ) → r < 2 ^ suc place → failsAt values (blockDistance ws place held) r ≡ failsAt values (distance ws th) r
-    block-fails r h = fails-at-ext values (blockDistance ws place held) (distance ws th) r (block-distance r h)
+    block-fails : (r : ℕ) → r < 2 ^ suc place → failsAt values (blockDistance ws place held) r ≡ failsAt values (rowDistance ws th) r
+    block-fails r h = fails-at-ext values (blockDistance ws place held) (rowDistance ws th) r (block-distance r h)
 
     -- where no row of the block before m fails, no row before m does
     none-before : (m : ℕ) → m ≤ 2 ^ suc place → ((r : ℕ) → 2 ^ place ≤ r → r < m → failsAt values (blockDistance ws place held) r ≡ false)
         → (r : ℕ)
         → r < m
-        → failsAt values (distance ws th) r ≡ false
+        → failsAt values (rowDistance ws th) r ≡ false
     none-before m h f r l = by (decLe (2 ^ place) r)
       where
-        by : Dec (2 ^ place ≤ r) → failsAt values (distance ws th) r ≡ false
+        by : Dec (2 ^ place ≤ r) → failsAt values (rowDistance ws th) r ≡ false
         by (yes high) = sym (block-fails r (omega arith)) ∙ f r high l
         by (no low) = passed .none-fails r (omega arith) (omega (arith, low))
 
     -- a row that is found in the block is the lowest that fails
-    pub block-row : (q : ℕ) → found (blockSearch values ws place held) ≡ Row q → IsFirst (failsAt values (distance ws th)) (2 ^ suc place) 0 q
+    pub block-row : (q : ℕ) → found (blockSearch values ws place held) ≡ Row q → IsFirst (failsAt values (rowDistance ws th)) (2 ^ suc place) 0 q
     block-row q e =
         let f = first-some (failsAt values (blockDistance ws place held)) (2 ^ place) (2 ^ place) q (found-some _ q e) in
         record {
@@ -137,7 +138,7 @@ module _ (ws : List ℤ) (th : ℤ) (values : List Bool) (place : ℕ) (held : L
 
     -- where none is found, the block is passed
     pub block-passed : (new : List ℤ) → found (blockSearch values ws place held) ≡ Nowhere → Holds (blockDistance ws place held) (2 ^ suc place) new
-        → Passed values (distance ws th) 0 (2 ^ suc place) new
+        → Passed values (rowDistance ws th) 0 (2 ^ suc place) new
     block-passed new e h =
         let f = first-none (failsAt values (blockDistance ws place held)) (2 ^ place) (2 ^ place) (found-none _ e) in
         record {
@@ -149,18 +150,18 @@ module _ (ws : List ℤ) (th : ℤ) (values : List Bool) (place : ℕ) (held : L
 
 module _ (t : Table) (v : Vector) (values : List Bool) (small : t .n ≤ 8) (read : values ≡ tabulate 256 (value t)) where
   -- a row of the table fails by the values that were read from it
-  fails-read : (r : ℕ) → r < rows t → failsAt values (distance (v .a) (v .b)) r ≡ fails t v r
+  fails-read : (r : ℕ) → r < rows t → failsAt values (rowDistance (v .a) (v .b)) r ≡ fails (functionOf t) v r
   unfolding failsAt fails
   fails-read r h =
       let is : getD values r false ≡ value t r = rw read (getD-tabulate (value t) 256 r false (omega (arith, rows-le small))) in
-      ap (λ (y : Bool). ltZ (margin y (distance (v .a) (v .b) r)) (pos 1)) is
+      ap (λ (y : Bool). ltZ (margin y (distance (v .a) (v .b) (level 2 r))) (pos 1)) is
 
   -- the lowest of the rows below m that fails is what is found
-  pub scan-row : (m q : ℕ) → m ≤ rows t → IsFirst (failsAt values (distance (v .a) (v .b))) m 0 q → Row q ≡ found (failing t v)
+  pub scan-row : (m q : ℕ) → m ≤ rows t → IsFirst (failsAt values (rowDistance (v .a) (v .b))) m 0 q → Row q ≡ found (failing (functionOf t) v)
   scan-row m q h f =
       sym
       (ap found
-      (failing-at t v q
+      (failing-at (functionOf t) v q
       record {
         start = omega arith;
         inside = omega arith;
@@ -169,5 +170,5 @@ module _ (t : Table) (v : Vector) (values : List Bool) (small : t .n ≤ 8) (rea
       }))
 
   -- where no row fails, nothing is
-  pub scan-nowhere : ((r : ℕ) → r < rows t → failsAt values (distance (v .a) (v .b)) r ≡ false) → Nowhere ≡ found (failing t v)
-  scan-nowhere p = sym (ap found (none-failing t v (λ r h. sym (fails-read r h) ∙ p r h)))
+  pub scan-nowhere : ((r : ℕ) → r < rows t → failsAt values (rowDistance (v .a) (v .b)) r ≡ false) → Nowhere ≡ found (failing (functionOf t) v)
+  scan-nowhere p = sym (ap found (none-failing (functionOf t) v (λ r h. sym (fails-read r h) ∙ p r h)))

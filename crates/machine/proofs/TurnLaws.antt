@@ -15,10 +15,11 @@ use borrow.Author.Tests.{lt-ltb, le-ltb, eqb-true, ne-eqb}
 use Rattle.numbers.specs.Tests.{isSome, sameBool}
 use Rattle.numbers.proofs.TestLaws.{no-true, or-neither, or-false-left, or-false-right}
 use Rattle.types.specs.declared.table.Table.{Table}
-use Rattle.table.specs.Table.{rows, value}
-use Rattle.table.specs.Inputs.{turnsAt, firstTurn}
+use Rattle.table.specs.Table.{rows, value, functionOf}
+use Rattle.function.specs.Turns.{turnsAt, firstTurn}
 use Rattle.table.proofs.TableLaws.{rows-le, partner-below}
-use Rattle.table.proofs.InputLaws.{first-turn-some, first-turn-none}
+use Rattle.table.proofs.OnTables.{table-turns}
+use Rattle.function.proofs.TurnLaws.{first-turn-some, first-turn-none}
 use Rattle.machine.specs.Words.{packed, wordOf, inTable, lacks, ownAt, partnerAt}
 use Rattle.machine.proofs.WordLaws.{packed-and, packed-or, packed-not, packed-none, packed-zero}
 
@@ -134,9 +135,11 @@ module _ (t : Table) (to : Bool) (place : ℕ) (h : t .n ≤ 8) (k : place < t .
   turned-past r l = rw (held-past t r l, held-past t (r + 2 ^ place) (omega arith)) (none-by (lacks place r) to)
 
   -- on a row of the table it is the definition's test
-  turned-in : (r : ℕ) → r < rows t → turned (held t) to place r ≡ turnsAt t to place r
-  unfolding turnsAt
-  turned-in r l = by (lacks place r) refl ∙ turn-by-tests (lacks place r) (value t r) (value t (r + 2 ^ place)) to
+  turned-in : (r : ℕ) → r < rows t → turned (held t) to place r ≡ turnsAt (functionOf t) to place r
+  turned-in r l =
+      by (lacks place r) refl
+      ∙ turn-by-tests (lacks place r) (value t r) (value t (r + 2 ^ place)) to
+      ∙ sym (table-turns t to place r)
     where
       by : (b : Bool) → lacks place r ≡ b → turned (held t) to place r ≡ turned (value t) to place r
       by true e =
@@ -145,22 +148,22 @@ module _ (t : Table) (to : Bool) (place : ℕ) (h : t .n ≤ 8) (k : place < t .
       by false e = rw e (skip-by (held t r) (held t (r + 2 ^ place)) (value t r) (value t (r + 2 ^ place)) to)
 
   -- where the search finds nothing, nothing turns
-  turned-none : firstTurn t to place ≡ none → (r : ℕ) → Dec (rows t ≤ r) → turned (held t) to place r ≡ false
+  turned-none : firstTurn (functionOf t) to place ≡ none → (r : ℕ) → Dec (rows t ≤ r) → turned (held t) to place r ≡ false
   turned-none o r (yes past) = turned-past r past
-  turned-none o r (no before) = turned-in r (omega arith) ∙ first-turn-none t to place o r (omega arith)
+  turned-none o r (no before) = turned-in r (omega arith) ∙ first-turn-none (functionOf t) to place o r (omega arith)
 
   -- where it finds a row, some row of 256 turns
-  turned-some : (q : ℕ) → firstTurn t to place ≡ some q → ((r : ℕ) → r < 256 → turned (held t) to place r ≡ false) → ⊥
+  turned-some : (q : ℕ) → firstTurn (functionOf t) to place ≡ some q → ((r : ℕ) → r < 256 → turned (held t) to place r ≡ false) → ⊥
   turned-some q o fails =
-      let first = first-turn-some t to place q o in
+      let first = first-turn-some (functionOf t) to place q o in
       let inside : q < rows t = omega (arith, first .inside) in
       no-true (sym (fails q (omega (arith, rows-le h))) ∙ turned-in q inside ∙ first .passes)
 
   -- the words of turns that the loop has gathered are not 0 exactly if the search finds a turn
-  pub turn-found : {x m : ℕ} → m ≡ 4 → x ≡ packed 64 (gathered (turned (held t) to place) m) → not (eqb x 0) ≡ isSome (firstTurn t to place)
-  turn-found {x} {m} all e = by (firstTurn t to place) refl
+  pub turn-found : {x m : ℕ} → m ≡ 4 → x ≡ packed 64 (gathered (turned (held t) to place) m) → not (eqb x 0) ≡ isSome (firstTurn (functionOf t) to place)
+  turn-found {x} {m} all e = by (firstTurn (functionOf t) to place) refl
     where
-      by : (o : Option ℕ) → firstTurn t to place ≡ o → not (eqb x 0) ≡ isSome (firstTurn t to place)
+      by : (o : Option ℕ) → firstTurn (functionOf t) to place ≡ o → not (eqb x 0) ≡ isSome (firstTurn (functionOf t) to place)
       by none o = rw (o, e, gather-zero (turned (held t) to place) m (λ r. turned-none o r (decLe (rows t) r)))
       by (some q) o =
           rw o

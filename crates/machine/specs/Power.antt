@@ -1,4 +1,4 @@
--- The highest power of two (document 01, "A sound job"). Definitions only. Assumes nothing.
+-- The highest power of two (document 01, "The stepping machine"). Definitions only. Assumes nothing.
 use mathlib.Core.Bool.{cond}
 use Prim.Native.Nat.{ℕ, _-_, _^_}
 use lib.Dec.{eqb}

@@ -8,7 +8,13 @@ use lib.Dec.{ltb}
 use lib.ListN.{getD}
 use lib.IntN.{ℤ, pos, _+ℤ_}
 use lib.Signed.{ltZ}
-use Rattle.machine.specs.Failing.{margin}
+use Rattle.function.specs.Function.{level}
+use Rattle.function.specs.Gate.{distance}
+use Rattle.function.specs.Failing.{margin}
+
+-- the distance of a table's row
+abbrev pub rowDistance : List ℤ → ℤ → ℕ → ℤ
+rowDistance ws th r = distance ws th (level 2 r)
 
 -- row r fails, by the value that a list has for it and by its distance
 unfoldable pub failsAt : List Bool → (ℕ → ℤ) → ℕ → Bool

@@ -6,7 +6,8 @@ use Prim.Native.Nat.{ℕ, zero, suc, _+_, _*_, _^_}
 use lib.Dec.{eqb, ltb}
 use Rattle.numbers.specs.Tabulate.{tabulate}
 use Rattle.types.specs.declared.table.Table.{Table}
-use Rattle.table.specs.Table.{rows, level, bitAt}
+use Rattle.table.specs.Table.{rows, bitAt}
+use Rattle.function.specs.Function.{level}
 use Rattle.machine.specs.declared.words.Pairs.{Pairs}
 
 -- the bit of a value: 1 where it is true

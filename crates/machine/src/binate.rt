@@ -9,13 +9,14 @@ ghost use mathlib.Core.Option.{Option, some};
 ghost use Prim.Native.Nat.{ℕ, _+_, _^_, _≤_, _<_};
 ghost use lib.ListN.{getD};
 ghost use Rattle.table.specs.Inputs.{found};
-ghost use Rattle.machine.specs.Binate.{pairMore, binateAt, binatePlace, binateCounts};
+ghost use Rattle.function.specs.Binate.{pairMore, binateAt, binatePlace, binateCounts};
 ghost use Rattle.machine.specs.Words.{rowWords};
+ghost use Rattle.table.specs.Table.{functionOf};
 
 // Whether the place's input rises somewhere and falls elsewhere, by the values of the rows.
 fn binate_at(words: &[u64; 4], place: usize) -> bool
     requires { ⌜ place < 8 ⌝ }
-    ensures { λ r. ⌜ ((t : Table) → t .n ≤ 8 → place < t .n → now (words .entry) ≡ rowWords t → r ≡ binateAt t place) ⌝ }
+    ensures { λ r. ⌜ ((t : Table) → t .n ≤ 8 → place < t .n → now (words .entry) ≡ rowWords t → r ≡ binateAt (functionOf t) place) ⌝ }
 {
     let mut rises: u64 = 0;
     let mut falls: u64 = 0;
@@ -32,7 +33,7 @@ fn binate_at(words: &[u64; 4], place: usize) -> bool
 // Returns the place of the lowest binate input.
 pub fn binate_place(table: Table) -> Found
     requires { ⌜ table .n ≤ 8 ⌝ }
-    ensures { λ r. ⌜ r ≡ found (binatePlace table) ⌝ }
+    ensures { λ r. ⌜ r ≡ found (binatePlace (functionOf table)) ⌝ }
 {
     let words = row_words(table);
     let n = table.n as usize;
@@ -49,7 +50,7 @@ pub fn binate_place(table: Table) -> Found
 // Adds one to the count of the row that a search found, and to that of its partner with the place's input true.
 fn add_pair(counts: &mut [u32; 256], place: usize, turn: Found)
     requires { ⌜ (place < 8) × ((row : ℕ) → turn ≡ found (some row) → row + 2 ^ place < 256) × ((row : ℕ) → getD (now counts) row 0 ≤ 2) ⌝ }
-    ensures { λ _. ⌜ ((o : Option ℕ) → turn ≡ found o → now (counts .exit) ≡ pairMore place o (now (counts .entry))) ⌝ }
+    ensures { λ _. ⌜ ((o : Option ℕ) → turn ≡ found o → now (counts .exit) ≡ pairMore 2 place o (now (counts .entry))) ⌝ }
 {
     let Found::Row(row) = turn else {
         return;
@@ -63,7 +64,7 @@ fn add_pair(counts: &mut [u32; 256], place: usize, turn: Found)
 // partners.
 pub fn binate_counts(table: Table, place: usize) -> [u32; 256]
     requires { ⌜ (table .n ≤ 8) × (place < table .n) ⌝ }
-    ensures { λ r. ⌜ r ≡ binateCounts table place ⌝ }
+    ensures { λ r. ⌜ r ≡ binateCounts (functionOf table) place ⌝ }
 {
     let mut counts = [0u32; 256];
     add_pair(&mut counts, place, first_turn(table, true, place));

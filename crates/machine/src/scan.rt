@@ -11,12 +11,13 @@ ghost use lib.IntN.{pos, natAbs};
 ghost use lib.Signed.{ltZ};
 ghost use Rattle.numbers.specs.Tests.{firstFrom};
 ghost use Rattle.numbers.specs.Tabulate.{tabulate};
-ghost use Rattle.table.specs.Table.{value};
+ghost use Rattle.table.specs.Table.{value, functionOf};
 ghost use Rattle.table.specs.Gate.{weightLimit, inRange};
 ghost use Rattle.table.specs.Inputs.{found};
-ghost use Rattle.machine.specs.Failing.{margin, failing};
+ghost use Rattle.function.specs.Failing.{margin, failing};
 ghost use Rattle.machine.specs.Scan.{failsAt, Holds, doubled};
 ghost use Rattle.machine.specs.Words.{valuesBelow};
+ghost use Rattle.function.specs.Gate.{distance};
 
 // Stores the values of the eight rows of a byte, where those of the rows before it stand. A byte 0 has nothing to store.
 fn store_byte(values: &mut [bool; 256], bytes: &[u8; 32], at: usize)
@@ -91,7 +92,7 @@ pub fn first_failing(
     v: Vector,
 ) -> Found
     requires { ⌜ (table .n ≤ 8) × (inRange weightLimit 8 (v .a) (v .b) ≡ true) × (now values ≡ tabulate 256 (value table)) ⌝ }
-    ensures { λ r. ⌜ r ≡ found (failing table v) ⌝ }
+    ensures { λ r. ⌜ r ≡ found (failing (functionOf table) v) ⌝ }
 {
     let first = 0 - v.b;
     if fails_by(values[0], first) {

@@ -5,13 +5,14 @@ ghost use mathlib.Core.Path.{_≡_};
 ghost use mathlib.Core.Bool.{true};
 ghost use Prim.Native.Nat.{_<_};
 ghost use Rattle.table.specs.Gate.{weightLimit, inRange};
-ghost use Rattle.machine.specs.Vector.{correctedBy, sameVector};
+ghost use Rattle.function.specs.Vector.{correctedBy, sameVector};
+ghost use Rattle.function.specs.Function.{level};
 
 // Returns v after the correction by a row of this value: 1 is added to the weights of its true inputs and taken from b; on a false
 // row the reverse.
 pub fn corrected_by(v: Vector, value: bool, row: usize) -> Vector
     requires { ⌜ (row < 256) × (inRange weightLimit 8 (v .a) (v .b) ≡ true) ⌝ }
-    ensures { λ r. ⌜ r ≡ correctedBy value row v ⌝ }
+    ensures { λ r. ⌜ r ≡ correctedBy value (level 2 row) v ⌝ }
 {
     let step: i32 = if value { 1 } else { -1 };
     let mut next = v;

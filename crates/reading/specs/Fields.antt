@@ -1,7 +1,6 @@
 -- What the structs of read fields stand for: the value with the position after it, or the number of a refusal with zeros beside it.
 -- Definitions only. Assumes nothing.
 use mathlib.Core.Bool.{false}
-use mathlib.Core.List.{List}
 use Prim.Native.Nat.{ℕ}
 use lib.ListN.{replicate}
 use lib.IntN.{ℤ, pos}
@@ -9,8 +8,8 @@ use Rattle.types.specs.declared.table.Table.{Table}
 use Rattle.cell.specs.Refusal.{answered, refused}
 use Rattle.cell.specs.declared.refusal.Status.the-variants as Status′
 use Rattle.types.specs.declared.vector.Vector.{Vector}
-use Rattle.machine.specs.Vector.{zeroVector}
-use Rattle.machine.specs.Binate.{zeros}
+use Rattle.function.specs.Vector.{zeroVector}
+use Rattle.function.specs.Binate.{zeros}
 use Rattle.codec.specs.Field.{Reading}
 use Rattle.codec.specs.RowList.{RowList, Pair}
 use Rattle.codec.specs.Head.{Head}

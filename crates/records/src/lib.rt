@@ -1,4 +1,3 @@
-// Records: tables, gates, witnesses and open jobs as bytes, written into a lent buffer and read from a slice.
+// Records read from a slice: tables, gates, witnesses and open jobs.
 pub mod read;
 pub mod reader;
-pub mod write;

@@ -1,9 +1,9 @@
 // A record written into a buffer, all of whose bytes were the same before.
 use crate::sample;
 use records::read::Read;
-use records::write::Written;
 use samples::parts::first_bytes;
 use samples::parts::least;
+use writers::write::Written;
 
 // The length of the buffer: more than the longest record takes.
 pub const ROOM: usize = 1300;

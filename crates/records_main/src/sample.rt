@@ -4,11 +4,6 @@
 use job::job::Job;
 use records::read::Kind;
 use records::read::Read;
-use records::write::Written;
-use records::write::save;
-use records::write::write_gate;
-use records::write::write_table;
-use records::write::write_witness;
 use samples::compare::is_gate_of;
 use samples::compare::same_job;
 use samples::compare::same_table;
@@ -21,6 +16,11 @@ use types::vector::Vector;
 use types::witness::Witness;
 use vectors::text::first;
 use vectors::text::word;
+use writers::write::Written;
+use writers::write::save;
+use writers::write::write_gate;
+use writers::write::write_table;
+use writers::write::write_witness;
 
 // Returns the record that has no part: all numbers are 0.
 pub fn bare(kind: Kind) -> Read {

@@ -11,7 +11,7 @@ use Rattle.numbers.specs.Sum.{sumBelow}
 use Rattle.numbers.proofs.SumLaws.{sum-below-most}
 use Rattle.types.specs.declared.table.Table.{Table}
 use Rattle.table.specs.Table.{rows, value}
-use Rattle.table.specs.Witness.{onlyIf, countOf}
+use Rattle.function.specs.Witness.{onlyIf, countOf}
 use Rattle.table.proofs.TableLaws.{rows-le}
 use Rattle.reporting.specs.Lines.{height}
 

@@ -6,7 +6,7 @@ use Prim.Native.Nat.{ℕ, zero, suc, _+_, _<_}
 use native.Mathlib.Nat.{add-zero, zero-add, add-suc, suc-add}
 use native.Mathlib.Numerals.{add-one}
 use native.Mathlib.Omega.{arith}
-use Rattle.table.specs.Witness.{countOf}
+use Rattle.function.specs.Witness.{countOf}
 use Rattle.reporting.specs.Text.{decimal, spaced}
 use Rattle.reporting.specs.Lines.{pairText, pairsText}
 

@@ -13,7 +13,7 @@ use Rattle.numbers.proofs.Int.{up, dn, size-add}
 use Rattle.numbers.proofs.SumLaws.{weighted-sum-size}
 use Rattle.numbers.proofs.Widths.{fits-size}
 use Rattle.table.specs.Table.{rows}
-use Rattle.table.specs.Witness.{countOf}
+use Rattle.function.specs.Witness.{countOf}
 use Rattle.table.proofs.TableLaws.{rows-le}
 use Rattle.job.specs.declared.job.Job.{Job}
 use Rattle.job.specs.Calls.{gateOf}

@@ -7,7 +7,7 @@ use lib.IntN.{ℤ, pos, _+ℤ_}
 use Rattle.numbers.specs.Sum.{sumBelow, weightedSum}
 use Rattle.types.specs.declared.table.Table.{Table}
 use Rattle.table.specs.Table.{rows, value}
-use Rattle.table.specs.Witness.{onlyIf, countOf}
+use Rattle.function.specs.Witness.{onlyIf, countOf}
 use Rattle.types.specs.declared.gate.Gate.{Gate}
 use Rattle.job.specs.declared.job.Job.{Job}
 use Rattle.types.specs.declared.stage.Stage.{Stage}

@@ -18,15 +18,15 @@ use types::table::Table;
 use types::vector::Vector;
 ghost use mathlib.Core.Path.{_≡_};
 ghost use mathlib.Core.Bool.{true, false, not, _&&_, _||_};
-ghost use Prim.Native.Nat.{_+_, _≤_, _<_};
+ghost use Prim.Native.Nat.{_≤_, _<_};
 ghost use lib.Dec.{leb, eqb};
 ghost use lib.ListN.{drop};
 ghost use Rattle.numbers.specs.Tests.{allAtMost, isSome};
-ghost use Rattle.table.specs.Table.{rows};
+ghost use Rattle.table.specs.Table.{rows, functionOf};
 ghost use Rattle.table.specs.Gate.{inRange};
-ghost use Rattle.machine.specs.Vector.{sameVector, zeroVector};
-ghost use Rattle.machine.specs.Failing.{failing};
-ghost use Rattle.machine.specs.Binate.{binatePlace};
+ghost use Rattle.function.specs.Vector.{sameVector, zeroVector};
+ghost use Rattle.function.specs.Failing.{failing};
+ghost use Rattle.function.specs.Binate.{binatePlace};
 ghost use Rattle.state.specs.Sound.{cap, markFor, isTraced, isBinateWith, soundIn, isSound};
 
 // The most corrections of a job.
@@ -35,7 +35,7 @@ pub const CAP: u32 = 1_000_000;
 // Whether some row fails.
 fn some_fails(table: Table, state: State) -> bool
     requires { ⌜ (table .n ≤ 8) × (state .k ≤ cap) × (inRange (state .k) (table .n) (state .v .a) (state .v .b) ≡ true) ⌝ }
-    ensures { λ r. ⌜ r ≡ isSome (failing table (state .v)) ⌝ }
+    ensures { λ r. ⌜ r ≡ isSome (failing (functionOf table) (state .v)) ⌝ }
 {
     let values = row_values(table);
     let mut distances = [0i32; 256];
@@ -45,7 +45,7 @@ fn some_fails(table: Table, state: State) -> bool
 // Whether some row fails, and v differs from s unless all counts are 0.
 fn goes_on(table: Table, state: State) -> bool
     requires { ⌜ (table .n ≤ 8) × (state .k ≤ cap) × (inRange (state .k) (table .n) (state .v .a) (state .v .b) ≡ true) ⌝ }
-    ensures { λ r. ⌜ r ≡ (isSome (failing table (state .v)) && (not (sameVector (state .v) (state .s)) || allAtMost 0 (state .counts))) ⌝ }
+    ensures { λ r. ⌜ r ≡ (isSome (failing (functionOf table) (state .v)) && (not (sameVector (state .v) (state .s)) || allAtMost 0 (state .counts))) ⌝ }
 {
     if !some_fails(table, state) {
         return false;
@@ -67,7 +67,7 @@ fn has_looped(state: State) -> bool
 // Whether the table is binate, and the counts are those that show it.
 fn has_binate_counts(table: Table, state: State) -> bool
     requires { ⌜ table .n ≤ 8 ⌝ }
-    ensures { λ r. ⌜ r ≡ isBinateWith table (binatePlace table) state ⌝ }
+    ensures { λ r. ⌜ r ≡ isBinateWith table (binatePlace (functionOf table)) state ⌝ }
 {
     let Found::Row(place) = binate_place(table) else {
         return false;
@@ -82,7 +82,7 @@ fn is_binate_start(table: Table, state: State) -> bool
     ensures { λ r. ⌜ r ≡ (eqb (state .k) 0
         && sameVector (state .v) zeroVector
         && sameVector (state .s) zeroVector
-        && isBinateWith table (binatePlace table) state) ⌝ }
+        && isBinateWith table (binatePlace (functionOf table)) state) ⌝ }
 {
     let zero = Vector { a: [0i32; 8], b: 0 };
     if state.k != 0 {
@@ -100,7 +100,7 @@ fn is_binate_start(table: Table, state: State) -> bool
 // Whether the state is traced, on a table that is not binate.
 fn is_unate_trace(table: Table, state: State) -> bool
     requires { ⌜ table .n ≤ 8 ⌝ }
-    ensures { λ r. ⌜ r ≡ (isTraced table state && not (isSome (binatePlace table))) ⌝ }
+    ensures { λ r. ⌜ r ≡ (isTraced table state && not (isSome (binatePlace (functionOf table)))) ⌝ }
 {
     let counts = state.counts;
     if !is_traced(table, counts, state.v, state.s, state.mark, state.k) {

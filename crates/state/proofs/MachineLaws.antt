@@ -8,15 +8,14 @@ use Prim.Native.Nat.{ℕ, zero, suc, _+_, _-_, _≤_}
 use native.Mathlib.Nat.{zero-add, suc-add}
 use native.Mathlib.Omega.{arith}
 use lib.Dec.{eqb}
-use Rattle.types.specs.declared.table.Table.{Table}
-use Rattle.table.specs.Table.{value}
 use Rattle.types.specs.declared.state.State.{State}
 use Rattle.types.specs.declared.stage.Stage.{Stage}
 use Rattle.types.specs.declared.stage.Stage.the-variants.{Open, Found, Looped, Binate}
-use Rattle.machine.specs.Failing.{failing}
-use Rattle.machine.specs.Vector.{correctedBy, sameVector}
-use Rattle.machine.specs.Binate.{oneMore, zeros, binatePlace, binateCounts}
-use Rattle.state.specs.Machine.{startState, freshBy, fresh, withStage, markIf, marked, settleBy, corrected, settled, closeIf, closed, stepBy, stepIn, step, run}
+use Rattle.function.specs.Function.{Function, levels}
+use Rattle.function.specs.Failing.{failing}
+use Rattle.function.specs.Vector.{correctedBy, sameVector, zeroVector}
+use Rattle.function.specs.Binate.{oneMore, zeros, binatePlace, binateCounts}
+use Rattle.state.specs.Machine.{startState, startStage, freshBy, fresh, withStage, markIf, marked, settleBy, corrected, settled, closeIf, closed, stepBy, stepIn, step, run}
 use Rattle.machine.specs.Power.{highest}
 
 -- ---- step 4, and the ends
@@ -56,36 +55,41 @@ mark-keeps : (b : Bool) (x : State) → (markIf b x) .k ≡ x .k
 mark-keeps true x = refl
 mark-keeps false x = refl
 
-module _ (t : Table) where
+module _ (f : Function) where
   -- ---- the fresh state
 
-  -- of a table without a binate input it is open, without counts
-  pub fresh-open : binatePlace t ≡ none → fresh t ≡ startState zeros Open
+  -- without a binate input it is open where a row fails, without counts
+  pub fresh-open : (r : ℕ) → binatePlace f ≡ none → failing f zeroVector ≡ some r → fresh f ≡ startState zeros Open
   unfolding fresh
-  fresh-open e = ap (freshBy t) e
+  fresh-open r e g = ap (freshBy f) e ∙ ap (λ (o : Option ℕ). startState zeros (startStage o)) g
 
-  -- of any other it is binate, with the counts of the lowest binate input
-  pub fresh-binate : (place : ℕ) → binatePlace t ≡ some place → fresh t ≡ startState (binateCounts t place) Binate
+  -- and found where none does
+  pub fresh-found : binatePlace f ≡ none → failing f zeroVector ≡ none → fresh f ≡ startState zeros Found
   unfolding fresh
-  fresh-binate place e = ap (freshBy t) e
+  fresh-found e g = ap (freshBy f) e ∙ ap (λ (o : Option ℕ). startState zeros (startStage o)) g
 
-  fresh-by-k : (o : Option ℕ) → (freshBy t o) .k ≡ 0
+  -- with one it is binate, with the counts of the lowest binate input
+  pub fresh-binate : (place : ℕ) → binatePlace f ≡ some place → fresh f ≡ startState (binateCounts f place) Binate
+  unfolding fresh
+  fresh-binate place e = ap (freshBy f) e
+
+  fresh-by-k : (o : Option ℕ) → (freshBy f o) .k ≡ 0
   fresh-by-k none = refl
   fresh-by-k (some place) = refl
 
   -- its K is 0
-  pub fresh-k : (fresh t) .k ≡ 0
+  pub fresh-k : (fresh f) .k ≡ 0
   unfolding fresh
-  fresh-k = fresh-by-k (binatePlace t)
+  fresh-k = fresh-by-k (binatePlace f)
 
   -- ---- the choices of a step
 
   -- steps 1 and 2: the state after the correction by a row
   pub corrected-is : (r : ℕ) (x : State)
-      → corrected t r x
+      → corrected f r x
       ≡ record {
         k = x .k + 1;
-        v = correctedBy (value t r) r (x .v);
+        v = correctedBy (f .value r) (levels f r) (x .v);
         mark = x .mark;
         s = x .s;
         counts = oneMore r (x .counts);
@@ -95,38 +99,38 @@ module _ (t : Table) where
   corrected-is r x = refl
 
   -- step 3: with v = s the stage is looped
-  pub closed-looped : (x : State) → sameVector (x .v) (x .s) ≡ true → closed t x ≡ withStage Looped x
+  pub closed-looped : (x : State) → sameVector (x .v) (x .s) ≡ true → closed f x ≡ withStage Looped x
   unfolding closed
-  closed-looped x e = ap (λ (b : Bool). closeIf t b x) e
+  closed-looped x e = ap (λ (b : Bool). closeIf f b x) e
 
   -- otherwise the step goes on to 4 and 5
-  pub closed-on : (x : State) → sameVector (x .v) (x .s) ≡ false → closed t x ≡ settled t (marked x)
+  pub closed-on : (x : State) → sameVector (x .v) (x .s) ≡ false → closed f x ≡ settled f (marked x)
   unfolding closed
-  closed-on x e = ap (λ (b : Bool). closeIf t b x) e
+  closed-on x e = ap (λ (b : Bool). closeIf f b x) e
 
   -- step 5: where no row fails the stage is found
-  pub settled-found : (x : State) → failing t (x .v) ≡ none → settled t x ≡ withStage Found x
+  pub settled-found : (x : State) → failing f (x .v) ≡ none → settled f x ≡ withStage Found x
   unfolding settled
   settled-found x e = ap (λ (o : Option ℕ). settleBy o x) e
 
   -- where one fails the state is as it was
-  pub settled-open : (x : State) (r : ℕ) → failing t (x .v) ≡ some r → settled t x ≡ x
+  pub settled-open : (x : State) (r : ℕ) → failing f (x .v) ≡ some r → settled f x ≡ x
   unfolding settled
   settled-open x r e = ap (λ (o : Option ℕ). settleBy o x) e
 
   -- ---- a step
 
   -- a step of an open job is a correction by the lowest failing row, and what follows it
-  pub step-open : (x : State) (r : ℕ) → x .stage ≡ Open → failing t (x .v) ≡ some r → step t x ≡ closed t (corrected t r x)
+  pub step-open : (x : State) (r : ℕ) → x .stage ≡ Open → failing f (x .v) ≡ some r → step f x ≡ closed f (corrected f r x)
   unfolding step stepIn
-  step-open x r s e = ap (λ (stage : Stage). stepIn t stage x) s ∙ ap (λ (o : Option ℕ). stepBy t o x) e
+  step-open x r s e = ap (λ (stage : Stage). stepIn f stage x) s ∙ ap (λ (o : Option ℕ). stepBy f o x) e
 
   -- an open job without a failing row steps no more
-  pub step-none : (x : State) → x .stage ≡ Open → failing t (x .v) ≡ none → step t x ≡ x
+  pub step-none : (x : State) → x .stage ≡ Open → failing f (x .v) ≡ none → step f x ≡ x
   unfolding step stepIn
-  step-none x s e = ap (λ (stage : Stage). stepIn t stage x) s ∙ ap (λ (o : Option ℕ). stepBy t o x) e
+  step-none x s e = ap (λ (stage : Stage). stepIn f stage x) s ∙ ap (λ (o : Option ℕ). stepBy f o x) e
 
-  step-in-ended : (stage : Stage) (x : State) → stage ≢ Open → stepIn t stage x ≡ x
+  step-in-ended : (stage : Stage) (x : State) → stage ≢ Open → stepIn f stage x ≡ x
   unfolding stepIn
   step-in-ended Open x h = absurd (h refl)
   step-in-ended Found x h = refl
@@ -134,80 +138,80 @@ module _ (t : Table) where
   step-in-ended Binate x h = refl
 
   -- nor does an ended job
-  pub step-ended : (x : State) → x .stage ≢ Open → step t x ≡ x
+  pub step-ended : (x : State) → x .stage ≢ Open → step f x ≡ x
   unfolding step
   step-ended x h = step-in-ended (x .stage) x h
 
   -- ---- K in a step
 
-  close-keeps : (b : Bool) (x : State) → (closeIf t b x) .k ≡ x .k
+  close-keeps : (b : Bool) (x : State) → (closeIf f b x) .k ≡ x .k
   unfolding settled marked
   close-keeps true x = refl
-  close-keeps false x = settle-keeps (failing t ((marked x) .v)) (marked x) ∙ mark-keeps (eqb (highest (x .k)) (x .k)) x
+  close-keeps false x = settle-keeps (failing f ((marked x) .v)) (marked x) ∙ mark-keeps (eqb (highest (x .k)) (x .k)) x
 
   -- steps 3 to 5 keep K
-  pub closed-keeps : (x : State) → (closed t x) .k ≡ x .k
+  pub closed-keeps : (x : State) → (closed f x) .k ≡ x .k
   unfolding closed
   closed-keeps x = close-keeps (sameVector (x .v) (x .s)) x
 
   -- a step of an open job with a failing row adds 1 to K
-  pub step-k : (x : State) (r : ℕ) → x .stage ≡ Open → failing t (x .v) ≡ some r → (step t x) .k ≡ x .k + 1
-  step-k x r s e = rw (step-open x r s e, closed-keeps (corrected t r x), corrected-is r x)
+  pub step-k : (x : State) (r : ℕ) → x .stage ≡ Open → failing f (x .v) ≡ some r → (step f x) .k ≡ x .k + 1
+  step-k x r s e = rw (step-open x r s e, closed-keeps (corrected f r x), corrected-is r x)
 
-  step-by-growth : (o : Option ℕ) (x : State) → (stepBy t o x) .k ≤ x .k + 1
+  step-by-growth : (o : Option ℕ) (x : State) → (stepBy f o x) .k ≤ x .k + 1
   unfolding corrected
   step-by-growth none x = omega arith
-  step-by-growth (some r) x = omega (arith, closed-keeps (corrected t r x))
+  step-by-growth (some r) x = omega (arith, closed-keeps (corrected f r x))
 
-  step-in-growth : (stage : Stage) (x : State) → (stepIn t stage x) .k ≤ x .k + 1
+  step-in-growth : (stage : Stage) (x : State) → (stepIn f stage x) .k ≤ x .k + 1
   unfolding stepIn
-  step-in-growth Open x = step-by-growth (failing t (x .v)) x
+  step-in-growth Open x = step-by-growth (failing f (x .v)) x
   step-in-growth Found x = omega arith
   step-in-growth Looped x = omega arith
   step-in-growth Binate x = omega arith
 
   -- a step adds at most 1 to K
-  pub step-growth : (x : State) → (step t x) .k ≤ x .k + 1
+  pub step-growth : (x : State) → (step f x) .k ≤ x .k + 1
   unfolding step
   step-growth x = step-in-growth (x .stage) x
 
   -- ---- runs
 
   -- no step
-  pub run-zero : (x : State) → run t 0 x ≡ x
+  pub run-zero : (x : State) → run f 0 x ≡ x
   unfolding run
   run-zero x = refl
 
   -- one step, and then the others
-  pub run-next : (m : ℕ) (x : State) → run t (suc m) x ≡ run t m (step t x)
+  pub run-next : (m : ℕ) (x : State) → run f (suc m) x ≡ run f m (step f x)
   unfolding run
   run-next m x = refl
 
   -- the others, and then one step
-  pub run-suc : (m : ℕ) (x : State) → run t (suc m) x ≡ step t (run t m x)
-  run-suc zero x = run-next 0 x ∙ run-zero (step t x) ∙ ap (step t) (sym (run-zero x))
-  run-suc (suc m) x = run-next (suc m) x ∙ run-suc m (step t x) ∙ ap (step t) (sym (run-next m x))
+  pub run-suc : (m : ℕ) (x : State) → run f (suc m) x ≡ step f (run f m x)
+  run-suc zero x = run-next 0 x ∙ run-zero (step f x) ∙ ap (step f) (sym (run-zero x))
+  run-suc (suc m) x = run-next (suc m) x ∙ run-suc m (step f x) ∙ ap (step f) (sym (run-next m x))
 
   -- a run is a run after a run
-  pub run-add : (m n : ℕ) (x : State) → run t (m + n) x ≡ run t n (run t m x)
+  pub run-add : (m n : ℕ) (x : State) → run f (m + n) x ≡ run f n (run f m x)
   run-add zero n x = rw (zero-add n, run-zero x)
-  run-add (suc m) n x = rw (suc-add m n, run-next (m + n) x, run-next m x) (run-add m n (step t x))
+  run-add (suc m) n x = rw (suc-add m n, run-next (m + n) x, run-next m x) (run-add m n (step f x))
 
   -- a run of an ended job is the job
-  pub run-ended : (m : ℕ) (x : State) → x .stage ≢ Open → run t m x ≡ x
+  pub run-ended : (m : ℕ) (x : State) → x .stage ≢ Open → run f m x ≡ x
   run-ended zero x h = run-zero x
-  run-ended (suc m) x h = run-next m x ∙ ap (run t m) (step-ended x h) ∙ run-ended m x h
+  run-ended (suc m) x h = run-next m x ∙ ap (run f m) (step-ended x h) ∙ run-ended m x h
 
   -- a job that is open after a run was open before it
-  pub run-was-open : (m : ℕ) (x : State) → (run t m x) .stage ≡ Open → x .stage ≡ Open
+  pub run-was-open : (m : ℕ) (x : State) → (run f m x) .stage ≡ Open → x .stage ≡ Open
   run-was-open m x e = by (open-or-ended (x .stage))
     where
       by : Dec (x .stage ≡ Open) → x .stage ≡ Open
-      by (yes f) = f
-      by (no f) = absurd (f (sym (ap (λ (i : State). i .stage) (run-ended m x f)) ∙ e))
+      by (yes g) = g
+      by (no g) = absurd (g (sym (ap (λ (i : State). i .stage) (run-ended m x g)) ∙ e))
 
   -- a state that has ended stays as it is for the rest of a budget
-  pub run-stays : (start end : State) (m budget : ℕ) → m ≤ budget → end ≡ run t m start → end .stage ≢ Open → end ≡ run t budget start
+  pub run-stays : (start end : State) (m budget : ℕ) → m ≤ budget → end ≡ run f m start → end .stage ≢ Open → end ≡ run f budget start
   run-stays start end m budget h e n =
       let parts : budget ≡ m + (budget - m) = omega arith in
-      sym (ap (λ (b : ℕ). run t b start) parts ∙ run-add m (budget - m) start ∙ ap (run t (budget - m)) (sym e) ∙ run-ended (budget - m) end n)
+      sym (ap (λ (b : ℕ). run f b start) parts ∙ run-add m (budget - m) start ∙ ap (run f (budget - m)) (sym e) ∙ run-ended (budget - m) end n)

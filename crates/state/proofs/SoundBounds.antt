@@ -4,6 +4,7 @@ use mathlib.Core.Path.{_≡_, refl, _∙_, ap, subst}
 use mathlib.Core.Logic.{_≢_}
 use mathlib.Core.Bool.{Bool, true, false}
 use Prim.Native.Nat.{ℕ, _+_, _*_, _-_, _≤_, _<_}
+use native.Mathlib.Nat.{one-mul}
 use native.Mathlib.Decide.{decLe}
 use native.Mathlib.Omega.{arith}
 use mathlib.Core.List.{List}
@@ -11,79 +12,80 @@ use lib.ListN.{getD, drop}
 use lib.Seq.{getD-drop}
 use lib.IntN.{ℤ}
 use borrow.Author.Tests.{lt-ltb}
-use Rattle.numbers.specs.Tests.{sameBool}
-use Rattle.numbers.proofs.SumLaws.{sum-below-term}
-use Rattle.numbers.proofs.TestLaws.{same-bool-refl, all-at-most-at}
-use Rattle.types.specs.declared.table.Table.{Table}
-use Rattle.table.specs.Table.{rows, value}
+use Rattle.numbers.proofs.TestLaws.{all-at-most-at}
+use Rattle.function.specs.Function.{Function, rows}
+use Rattle.function.specs.Witness.{sideSum, countOf}
+use Rattle.function.proofs.WitnessLaws.{side-sum-term}
 use Rattle.table.specs.Gate.{weightLimit, inRange}
-use Rattle.table.specs.Witness.{inputLevel, onlyIf, sideSum, countOf}
 use Rattle.types.specs.declared.state.State.{State}
 use Rattle.types.specs.declared.stage.Stage.{Stage}
 use Rattle.types.specs.declared.stage.Stage.the-variants.{Open, Found, Looped, Binate}
-use Rattle.state.specs.Sound.{cap, Traced, SoundIn, Sound}
+use Rattle.types.specs.declared.table.Table.{Table}
+use Rattle.table.specs.Table.{functionOf}
+use Rattle.state.specs.Sound.{cap, Ranged, Traced, SoundIn, Sound}
 use Rattle.machine.proofs.RangeLaws.{InRange, in-range-correct, in-range-at}
 
--- a row's count, times the level of an input, is at most the sum of its side
-pub side-sum-term : (t : Table) (count : ℕ → ℕ) (i r : ℕ) → r < rows t → count r * inputLevel r i ≤ sideSum t (value t r) count i
-unfolding sideSum
-side-sum-term t count i r h =
-    let term : ℕ → ℕ = λ q. onlyIf (sameBool (value t q) (value t r)) (count q * inputLevel q i) in
-    omega (arith, sum-below-term (rows t) term r h, ap (λ (b : Bool). onlyIf b (count r * inputLevel r i)) (same-bool-refl (value t r)))
-
 -- the count of a row of a traced state is at most K − M
-pub traced-count : {t : Table} {x : State} → Traced t x → (r : ℕ) → r < rows t → countOf (x .counts) r + x .mark ≤ x .k
-traced-count {t} {x} traced r h = by (value t r) (side-sum-term t (countOf (x .counts)) 0 r h)
+pub traced-count : {f : Function} {x : State} → Traced f x → (r : ℕ) → r < rows f → countOf (x .counts) r + x .mark ≤ x .k
+traced-count {f} {x} traced r h = by (f .value r) (side-sum-term f (countOf (x .counts)) 0 r h)
   where
-    by : (y : Bool) → countOf (x .counts) r * 1 ≤ sideSum t y (countOf (x .counts)) 0 → countOf (x .counts) r + x .mark ≤ x .k
+    by : (y : Bool) → countOf (x .counts) r * 1 ≤ sideSum f y (countOf (x .counts)) 0 → countOf (x .counts) r + x .mark ≤ x .k
     by true l = omega (arith, traced .total)
     by false l = omega (arith, traced .total)
 
 -- a vector within ±k, with k at most the cap, is in the range of the search for a failing row
 pub in-range-search : (k n : ℕ) (ws : List ℤ) (th : ℤ) → k ≤ cap → inRange k n ws th ≡ true → inRange weightLimit 8 ws th ≡ true
 in-range-search k n ws th h e =
-    let f = in-range-correct k n ws th .0 e in
+    let g = in-range-correct k n ws th .0 e in
     in-range-correct weightLimit 8 ws th .1
     record {
-      threshold = omega (arith, f .threshold);
-      places = λ place l. rw (lt-ltb place 8 l) (omega (arith, in-range-at f place l));
+      threshold = omega (arith, g .threshold);
+      places = λ place l. rw (lt-ltb place 8 l) (omega (arith, in-range-at g place l));
     }
 
-module _ {t : Table} {x : State} (s : Sound t x) where
+module _ {f : Function} {x : State} (s : Sound f x) where
   -- what a stage asks, of a state in that stage
-  pub sound-in : (stage : Stage) → x .stage ≡ stage → SoundIn t stage x
-  sound-in stage e = subst (λ (y : Stage). SoundIn t y x) e (s .staged)
+  pub sound-in : (stage : Stage) → x .stage ≡ stage → SoundIn f stage x
+  sound-in stage e = subst (λ (y : Stage). SoundIn f y x) e (s .staged)
 
-  -- v and s lie within ±K, and their places past n hold 0
-  pub sound-current : InRange (x .k) (t .n) (x .v .a) (x .v .b)
-  sound-current = in-range-correct (x .k) (t .n) (x .v .a) (x .v .b) .0 (s .current)
+  -- v and s lie within ±(top × K), and their places past n hold 0
+  pub sound-current : InRange (f .top * x .k) (f .places) (x .v .a) (x .v .b)
+  sound-current = in-range-correct (f .top * x .k) (f .places) (x .v .a) (x .v .b) .0 (s .current)
 
-  pub sound-copied : InRange (x .k) (t .n) (x .s .a) (x .s .b)
-  sound-copied = in-range-correct (x .k) (t .n) (x .s .a) (x .s .b) .0 (s .copied)
+  pub sound-copied : InRange (f .top * x .k) (f .places) (x .s .a) (x .s .b)
+  sound-copied = in-range-correct (f .top * x .k) (f .places) (x .s .a) (x .s .b) .0 (s .copied)
 
   -- a state that is not binate is traced
-  pub sound-traced : x .stage ≢ Binate → Traced t x
+  pub sound-traced : x .stage ≢ Binate → Traced f x
   sound-traced n = by (x .stage) n (s .staged)
     where
-      by : (stage : Stage) → stage ≢ Binate → SoundIn t stage x → Traced t x
+      by : (stage : Stage) → stage ≢ Binate → SoundIn f stage x → Traced f x
       by Open n p = p .0
       by Found n p = p .0
       by Looped n p = p .0
       by Binate n p = absurd (n refl)
 
   -- a row past the table has no count
-  pub sound-past : (r : ℕ) → rows t ≤ r → getD (x .counts) r 0 ≡ 0
+  pub sound-past : (r : ℕ) → rows f ≤ r → getD (x .counts) r 0 ≡ 0
   sound-past r h =
-      let d = r - rows t in
-      let there : rows t + d ≡ r = omega arith in
-      let past = drop (rows t) (x .counts) in
-      let count = getD-drop (rows t) (x .counts) d 0 ∙ ap (λ (q : ℕ). getD (x .counts) q 0) there in
+      let d = r - rows f in
+      let there : rows f + d ≡ r = omega arith in
+      let past = drop (rows f) (x .counts) in
+      let count = getD-drop (rows f) (x .counts) d 0 ∙ ap (λ (q : ℕ). getD (x .counts) q 0) there in
       omega (arith, all-at-most-at 0 past (s .past) d)
 
   -- each count of a state that is not binate is at most K
   pub sound-count : x .stage ≢ Binate → (r : ℕ) → getD (x .counts) r 0 ≤ x .k
-  sound-count n r = by (decLe (rows t) r)
+  sound-count n r = by (decLe (rows f) r)
     where
-      by : Dec (rows t ≤ r) → getD (x .counts) r 0 ≤ x .k
+      by : Dec (rows f ≤ r) → getD (x .counts) r 0 ≤ x .k
       by (yes h) = omega (arith, sound-past r h)
       by (no h) = omega (arith, traced-count (sound-traced n) r (omega arith))
+
+-- on a table v and s lie within ±K
+module _ (t : Table) {x : State} (s : Sound (functionOf t) x) where
+  pub table-current : Ranged (x .k) (t .n) (x .v)
+  table-current = rw (one-mul (x .k)) at (s .current)
+
+  pub table-copied : Ranged (x .k) (t .n) (x .s)
+  table-copied = rw (one-mul (x .k)) at (s .copied)

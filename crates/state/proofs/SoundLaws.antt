@@ -2,29 +2,30 @@
 use mathlib.Core.Path.{_≡_, refl, sym, _∙_, ap}
 use mathlib.Core.Logic.{_↔_}
 use mathlib.Core.Bool.{Bool, true, false, not, _&&_, _||_}
-use mathlib.Core.List.{List}
 use mathlib.Core.Option.{Option, some, none}
-use Prim.Native.Nat.{ℕ, suc, _+_, _^_, _≤_}
+use Prim.Native.Nat.{ℕ, suc, _+_, _≤_}
+use native.Mathlib.Nat.{one-mul}
 use native.Mathlib.Omega.{arith}
 use lib.Dec.{leb, eqb}
-use lib.ListN.{length, length-replicate}
+use lib.ListN.{length}
 use lib.IntN.{ℤ, pos, _+ℤ_}
 use borrow.Author.Tests.{leb-true, le-leb, eqb-true, eq-eqb}
 use Rattle.numbers.specs.Tests.{allAtMost, allBelow, isSome}
 use Rattle.numbers.proofs.TestLaws.{no-true, and-left, and-right, and-both, all-below-at, all-below-from}
 use Rattle.types.specs.declared.table.Table.{Table}
-use Rattle.table.specs.Witness.{sideSum, countOf, sameCounts}
-use Rattle.table.specs.Inputs.{firstTurn}
+use Rattle.table.specs.Table.{functionOf}
+use Rattle.table.specs.Witness.{sameCounts}
 use Rattle.table.proofs.WitnessLaws.{same-counts-correct}
 use Rattle.types.specs.declared.state.State.{State}
 use Rattle.types.specs.declared.stage.Stage.{Stage}
 use Rattle.types.specs.declared.stage.Stage.the-variants.{Open, Found, Looped, Binate}
-use Rattle.machine.specs.Failing.{failing}
-use Rattle.machine.specs.Binate.{oneMore, binatePlace, binateCounts, pairMore, zeros}
-use Rattle.machine.specs.Vector.{sameZ, sameVector, zeroVector}
-use Rattle.machine.specs.Vector.{component}
+use Rattle.function.specs.Witness.{sideSum, countOf}
+use Rattle.function.specs.Failing.{failing}
+use Rattle.function.specs.Binate.{binatePlace, binateCounts}
+use Rattle.function.specs.Vector.{sameZ, sameVector, zeroVector, component}
+use Rattle.function.proofs.BinateLaws.{length-binate-counts}
 use Rattle.state.specs.Sound.{Shaped, Traced, SoundIn, Sound, isShaped, isTraced, isBinateWith, soundIn, isSound}
-use Rattle.machine.proofs.VectorLaws.{same-z-correct, same-vector-correct, length-one-more}
+use Rattle.function.proofs.VectorLaws.{same-z-correct, same-vector-correct}
 
 -- ---- tests and what they say
 
@@ -75,29 +76,16 @@ shaped-correct x =
       λ s. lengths .1 (s .weights, s .copied, s .counts),
     )
 
--- there are as many counts as before
-pub length-pair-more : (place : ℕ) (o : Option ℕ) (counts : List ℕ) → length (pairMore place o counts) ≡ length counts
-length-pair-more place none counts = refl
-length-pair-more place (some r) counts = length-one-more (r + 2 ^ place) (oneMore r counts) ∙ length-one-more r counts
-
--- a binate table has 256 counts
-pub length-binate-counts : (t : Table) (place : ℕ) → length (binateCounts t place) ≡ 256
-unfolding binateCounts
-length-binate-counts t place =
-    length-pair-more place (firstTurn t false place) (pairMore place (firstTurn t true place) zeros)
-    ∙ length-pair-more place (firstTurn t true place) zeros
-    ∙ length-replicate {A = ℕ} 256 0
-
 module _ (t : Table) where
   -- the counts add up to K − M, and v is s plus the corrections
-  pub traced-correct : (x : State) → isTraced t x ≡ true ↔ Traced t x
+  pub traced-correct : (x : State) → isTraced t x ≡ true ↔ Traced (functionOf t) x
   unfolding isTraced
   traced-correct x =
       let parts = and-two (is-equal total (x .k)) sums in
       (λ e. record { total = parts .0 e .0; sum = parts .0 e .1 }, λ traced. parts .1 (traced .total, traced .sum))
     where
       side : Bool → ℕ → ℕ
-      side = λ y. sideSum t y (countOf (x .counts))
+      side = λ y. sideSum (functionOf t) y (countOf (x .counts))
 
       total : ℕ
       total = side true 0 + side false 0 + x .mark
@@ -115,34 +103,34 @@ module _ (t : Table) where
       )
 
   binate-with-correct : (o : Option ℕ) (x : State) → length (x .counts) ≡ 256
-      → isBinateWith t o x ≡ true ↔ ((place : ℕ) × (o ≡ some place) × (x .counts ≡ binateCounts t place))
+      → isBinateWith t o x ≡ true ↔ ((place : ℕ) × (o ≡ some place) × (x .counts ≡ binateCounts (functionOf t) place))
   binate-with-correct none x n = (λ e. absurd (no-true e), λ p. absurd (no-true (ap isSome (p .1))))
   binate-with-correct (some place) x n = (
     λ e. (place, refl, same .0 e),
-    λ p. same .1 (p .2 ∙ ap (binateCounts t) (sym (some-same (p .1)))),
+    λ p. same .1 (p .2 ∙ ap (binateCounts (functionOf t)) (sym (some-same (p .1)))),
   )
     where
-      same : sameCounts (x .counts) (binateCounts t place) ≡ true ↔ x .counts ≡ binateCounts t place
-      same = same-counts-correct (x .counts) (binateCounts t place) n (length-binate-counts t place)
+      same : sameCounts (x .counts) (binateCounts (functionOf t) place) ≡ true ↔ x .counts ≡ binateCounts (functionOf t) place
+      same = same-counts-correct (x .counts) (binateCounts (functionOf t) place) n (length-binate-counts (functionOf t) place)
 
       some-same : {p q : ℕ} → some p ≡ some q → p ≡ q
       some-same e = cc
 
   -- what the stage asks
-  sound-in-correct : (stage : Stage) (x : State) → length (x .counts) ≡ 256 → soundIn t stage x ≡ true ↔ SoundIn t stage x
+  sound-in-correct : (stage : Stage) (x : State) → length (x .counts) ≡ 256 → soundIn t stage x ≡ true ↔ SoundIn (functionOf t) stage x
   unfolding soundIn
   sound-in-correct Open x n =
-      and-four (traced-correct x) (is-none (binatePlace t)) (is-some (failing t (x .v)))
+      and-four (traced-correct x) (is-none (binatePlace (functionOf t))) (is-some (failing (functionOf t) (x .v)))
       (where-passed (sameVector (x .v) (x .s)) (allAtMost 0 (x .counts)) (same-vector-correct (x .v) (x .s)))
-  sound-in-correct Found x n = and-three (traced-correct x) (is-none (binatePlace t)) (is-none (failing t (x .v)))
+  sound-in-correct Found x n = and-three (traced-correct x) (is-none (binatePlace (functionOf t))) (is-none (failing (functionOf t) (x .v)))
   sound-in-correct Looped x n =
-      and-four (traced-correct x) (is-none (binatePlace t)) (is-at-most 2 (x .k)) (same-vector-correct (x .v) (x .s))
+      and-four (traced-correct x) (is-none (binatePlace (functionOf t))) (is-at-most 2 (x .k)) (same-vector-correct (x .v) (x .s))
   sound-in-correct Binate x n =
       and-four (is-equal (x .k) 0) (same-vector-correct (x .v) zeroVector) (same-vector-correct (x .s) zeroVector)
-      (binate-with-correct (binatePlace t) x n)
+      (binate-with-correct (binatePlace (functionOf t)) x n)
 
   -- the test of a sound job says so
-  pub is-sound-correct : (x : State) → isSound t x ≡ true ↔ Sound t x
+  pub is-sound-correct : (x : State) → isSound t x ≡ true ↔ Sound (functionOf t) x
   unfolding isSound
   is-sound-correct x = (
     λ e. (
@@ -156,15 +144,16 @@ module _ (t : Table) where
         record {
           shaped = shaped;
           capped = leb-true _ _ capped;
-          current = current;
-          copied = copied;
+          current = rw (one-mul (x .k)) current;
+          copied = rw (one-mul (x .k)) copied;
+          cared = λ r e. absurd (no-true (sym e));
           past = past;
           mark = eqb-true _ _ mark;
           staged = sound-in-correct (x .stage) x (shaped .counts) .0 ended;
         }),
     λ s. (
         let capped = and-both (shaped-correct x .1 (s .shaped)) (le-leb _ _ (s .capped)) in
-        let ranged = and-both (and-both capped (s .current)) (s .copied) in
+        let ranged = and-both (and-both capped (rw (one-mul (x .k)) at (s .current))) (rw (one-mul (x .k)) at (s .copied)) in
         let marked = and-both (and-both ranged (s .past)) (eq-eqb _ _ (s .mark)) in
         and-both marked (sound-in-correct (x .stage) x (s .shaped .counts) .1 (s .staged))),
   )

@@ -12,37 +12,39 @@ use lib.Dec.{eqb}
 use lib.ListN.{getD}
 use Rattle.table.proofs.InputLaws.{found-some, found-none}
 use Rattle.table.specs.declared.inputs.Found.the-variants.{Row, Nowhere}
-use Rattle.table.specs.Table.{rows, value}
+use Rattle.table.specs.Table.{rows, value, functionOf}
 use Rattle.table.specs.Gate.{weightLimit, inRange}
 use Rattle.table.specs.Inputs.{found}
+use Rattle.table.proofs.TableLaws.{table-fits}
 use Rattle.types.specs.declared.table.Table.{Table}
 use Rattle.types.specs.declared.vector.Vector.{Vector}
-use Rattle.machine.specs.Failing.{failing}
-use Rattle.machine.specs.Vector.{correctedBy, sameVector}
-use Rattle.machine.specs.Binate.{oneMore}
+use Rattle.function.specs.Failing.{failing}
+use Rattle.function.specs.Vector.{correctedBy, sameVector}
+use Rattle.function.specs.Binate.{oneMore}
 use Rattle.machine.specs.Power.{highest}
-use Rattle.machine.proofs.FailingLaws.{failing-some}
+use Rattle.function.proofs.FailingLaws.{failing-some}
 use Rattle.types.specs.declared.state.State.{State}
 use Rattle.types.specs.declared.stage.Stage.{Stage}
 use Rattle.types.specs.declared.stage.Stage.the-variants as Stage′
 use Rattle.state.specs.Machine.{withStage, markIf, marked, settled, closed, step, run}
 use Rattle.state.specs.Sound.{cap, Shaped, Ranged, Sound}
 use Rattle.state.proofs.MachineLaws.{corrected-is, closed-looped, closed-on, settled-found, settled-open, found-ended, looped-ended, binate-ended, step-open, run-zero, run-suc, run-stays}
-use Rattle.state.proofs.SoundBounds.{in-range-search, sound-in, sound-past, sound-count}
+use Rattle.state.proofs.SoundBounds.{in-range-search, table-current, table-copied, sound-in, sound-past, sound-count}
 use Rattle.state.proofs.Soundness.{run-sound-from}
+use Rattle.function.specs.Function.{level}
 
 -- ---- where the loop stands
 
 -- x is the machine's state after m steps from `start`, but for step 5: its stage is still open
 pub record Stands (t : Table) (start : State) (m : ℕ) (x : State) : Type 0 where
   pub stage : x .stage ≡ Stage′.Open
-  pub machine : settled t x ≡ run t m start
+  pub machine : settled (functionOf t) x ≡ run (functionOf t) m start
 
 -- a sound open state stands at its start
-pub stands-start : {t : Table} {x : State} → Sound t x → x .stage ≡ Stage′.Open → Stands t x 0 x
+pub stands-start : {t : Table} {x : State} → Sound (functionOf t) x → x .stage ≡ Stage′.Open → Stands t x 0 x
 stands-start {t} {x} s e =
     let fails = sound-in s Stage′.Open e .2 in
-    record { stage = e; machine = settled-open t x (fails .0) (fails .1) ∙ sym (run-zero t x) }
+    record { stage = e; machine = settled-open (functionOf t) x (fails .0) (fails .1) ∙ sym (run-zero (functionOf t) x) }
 
 -- step 4 keeps the stage
 marked-keeps : (x : State) → (marked x) .stage ≡ x .stage
@@ -66,50 +68,50 @@ moved r v x = record {
 
 module _ {t : Table} {start : State} {m : ℕ} {x : State} (s : Stands t start m x) where
   -- where no row fails, the state is found, and stays so
-  pub stands-found : (budget : ℕ) → m ≤ budget → found (failing t (x .v)) ≡ Nowhere → withStage Stage′.Found x ≡ run t budget start
+  pub stands-found : (budget : ℕ) → m ≤ budget → found (failing (functionOf t) (x .v)) ≡ Nowhere → withStage Stage′.Found x ≡ run (functionOf t) budget start
   stands-found budget h f =
-      let passes = found-none (failing t (x .v)) f in
-      run-stays t start (withStage Stage′.Found x) m budget h (sym (settled-found t x passes) ∙ s .machine) found-ended
+      let passes = found-none (failing (functionOf t) (x .v)) f in
+      run-stays (functionOf t) start (withStage Stage′.Found x) m budget h (sym (settled-found (functionOf t) x passes) ∙ s .machine) found-ended
 
-  module _ {r : ℕ} (f : found (failing t (x .v)) ≡ Row r) where
-    fails : failing t (x .v) ≡ some r
-    fails = found-some (failing t (x .v)) r f
+  module _ {r : ℕ} (f : found (failing (functionOf t) (x .v)) ≡ Row r) where
+    fails : failing (functionOf t) (x .v) ≡ some r
+    fails = found-some (failing (functionOf t) (x .v)) r f
 
     -- a row that is found is a row of the table
     pub stands-row : r < rows t
-    stands-row = omega (arith, failing-some t (x .v) r (found-some (failing t (x .v)) r f) .inside)
+    stands-row = omega (arith, failing-some (functionOf t) (x .v) r (found-some (failing (functionOf t) (x .v)) r f) .inside)
 
     -- the state is then the machine's
-    pub stands-open : x ≡ run t m start
-    stands-open = sym (settled-open t x r fails) ∙ s .machine
+    pub stands-open : x ≡ run (functionOf t) m start
+    stands-open = sym (settled-open (functionOf t) x r fails) ∙ s .machine
 
     -- v is the vector after the correction by the row
-    module _ {y : Bool} {v : Vector} (e : y ≡ value t r) (w : v ≡ correctedBy y r (x .v)) where
+    module _ {y : Bool} {v : Vector} (e : y ≡ value t r) (w : v ≡ correctedBy y (level 2 r) (x .v)) where
       -- the machine's next step is made of the state with that vector
-      stands-step : closed t (moved r v x) ≡ run t (m + 1) start
+      stands-step : closed (functionOf t) (moved r v x) ≡ run (functionOf t) (m + 1) start
       stands-step =
-          ap (closed t) (λ i. moved r (corrects i) x)
-          ∙ sym (ap (closed t) (corrected-is t r x))
-          ∙ sym (step-open t x r (s .stage) fails)
-          ∙ ap (step t) stands-open
-          ∙ sym (run-suc t m start)
-          ∙ ap (λ (n : ℕ). run t n start) (sym (add-one m))
+          ap (closed (functionOf t)) (λ i. moved r (corrects i) x)
+          ∙ sym (ap (closed (functionOf t)) (corrected-is (functionOf t) r x))
+          ∙ sym (step-open (functionOf t) x r (s .stage) fails)
+          ∙ ap (step (functionOf t)) stands-open
+          ∙ sym (run-suc (functionOf t) m start)
+          ∙ ap (λ (n : ℕ). run (functionOf t) n start) (sym (add-one m))
         where
-          corrects : v ≡ correctedBy (value t r) r (x .v)
-          corrects = w ∙ ap (λ (b : Bool). correctedBy b r (x .v)) e
+          corrects : v ≡ correctedBy (value t r) (level 2 r) (x .v)
+          corrects = w ∙ ap (λ (b : Bool). correctedBy b (level 2 r) (x .v)) e
 
       -- back at s the state is looped, and stays so
-      pub stands-looped : (budget : ℕ) → m < budget → sameVector v (x .s) ≡ true → withStage Stage′.Looped (moved r v x) ≡ run t budget start
+      pub stands-looped : (budget : ℕ) → m < budget → sameVector v (x .s) ≡ true → withStage Stage′.Looped (moved r v x) ≡ run (functionOf t) budget start
       stands-looped budget h same =
-          run-stays t start (withStage Stage′.Looped (moved r v x)) (m + 1) budget (omega arith)
-          (sym (closed-looped t (moved r v x) same) ∙ stands-step) looped-ended
+          run-stays (functionOf t) start (withStage Stage′.Looped (moved r v x)) (m + 1) budget (omega arith)
+          (sym (closed-looped (functionOf t) (moved r v x) same) ∙ stands-step) looped-ended
 
       -- elsewhere, after step 4, the loop stands at the next step
       pub stands-next : {after : State} → sameVector v (x .s) ≡ false → after ≡ marked (moved r v x) → Stands t start (m + 1) after
       stands-next {after} differs e =
           record {
             stage = ap (λ (i : State). i .stage) e ∙ marked-keeps (moved r v x) ∙ s .stage;
-            machine = ap (settled t) e ∙ sym (closed-on t (moved r v x) differs) ∙ stands-step;
+            machine = ap (settled (functionOf t)) e ∙ sym (closed-on (functionOf t) (moved r v x) differs) ∙ stands-step;
           }
 
 -- ---- the ranges of its state
@@ -124,25 +126,25 @@ pub record Bounded (t : Table) (x : State) : Type 0 where
   pub count : (r : ℕ) → getD (x .counts) r 0 ≤ cap
   pub past : (r : ℕ) → rows t ≤ r → getD (x .counts) r 0 ≡ 0
 
-sound-bounded : {t : Table} (stage : Stage) (x : State) → stage ≢ Stage′.Binate → Sound t (withStage stage x) → Bounded t x
+sound-bounded : {t : Table} (stage : Stage) (x : State) → stage ≢ Stage′.Binate → Sound (functionOf t) (withStage stage x) → Bounded t x
 sound-bounded {t} stage x n s = record {
   shaped = record { weights = s .shaped .weights; copied = s .shaped .copied; counts = s .shaped .counts };
   capped = s .capped;
-  current = s .current;
-  copied = s .copied;
-  ranged = in-range-search (x .k) (t .n) (x .v .a) (x .v .b) (s .capped) (s .current);
+  current = table-current t s;
+  copied = table-copied t s;
+  ranged = in-range-search (x .k) (t .n) (x .v .a) (x .v .b) (s .capped) (table-current t s);
   count = λ r. omega (arith, sound-count s n r, s .capped);
   past = λ r h. sound-past s r h;
 }
 
 -- the loop's state has those bounds, since the machine's is sound
-pub stands-bounded : {t : Table} {start : State} {m : ℕ} {x : State} → t .n ≤ 8 → Sound t start → start .k + m ≤ cap → Stands t start m x
+pub stands-bounded : {t : Table} {start : State} {m : ℕ} {x : State} → t .n ≤ 8 → Sound (functionOf t) start → start .k + m ≤ cap → Stands t start m x
     → Bounded t x
-stands-bounded {t} {start} {m} {x} n sound l s = by (failing t (x .v)) refl
+stands-bounded {t} {start} {m} {x} n sound l s = by (failing (functionOf t) (x .v)) refl
   where
-    machine : Sound t (settled t x)
-    machine = subst (Sound t) (sym (s .machine)) (run-sound-from t start n sound m l)
+    machine : Sound (functionOf t) (settled (functionOf t) x)
+    machine = subst (Sound (functionOf t)) (sym (s .machine)) (run-sound-from (functionOf t) start (table-fits t n) sound m l)
 
-    by : (o : Option ℕ) → failing t (x .v) ≡ o → Bounded t x
-    by none f = sound-bounded Stage′.Found x (λ e. let z : _≡_ {A = ℕ} 0 1 = cc in omega arith) (subst (Sound t) (settled-found t x f) machine)
-    by (some r) f = sound-bounded (x .stage) x (λ e. binate-ended (sym e ∙ s .stage)) (subst (Sound t) (settled-open t x r f) machine)
+    by : (o : Option ℕ) → failing (functionOf t) (x .v) ≡ o → Bounded t x
+    by none f = sound-bounded Stage′.Found x (λ e. let z : _≡_ {A = ℕ} 0 1 = cc in omega arith) (subst (Sound (functionOf t)) (settled-found (functionOf t) x f) machine)
+    by (some r) f = sound-bounded (x .stage) x (λ e. binate-ended (sym e ∙ s .stage)) (subst (Sound (functionOf t)) (settled-open (functionOf t) x r f) machine)

@@ -3,7 +3,8 @@
 use mathlib.Core.Path.{_≡_, refl, sym, _∙_, ap, subst}
 use mathlib.Core.Bool.{Bool, true, false}
 use mathlib.Core.Option.{Option, some, none}
-use Prim.Native.Nat.{ℕ, zero, suc, _+_, _-_, _≤_, _<_}
+use Prim.Native.Nat.{ℕ, zero, suc, _+_, _-_, _*_, _≤_, _<_}
+use native.Mathlib.Nat.{mul-add}
 use native.Mathlib.Omega.{arith}
 use lib.Dec.{eqb}
 use lib.ListN.{length, drop, length-replicate, length-drop, getD-replicate}
@@ -13,24 +14,25 @@ use borrow.Author.Tests.{eqb-true}
 use Rattle.numbers.specs.Tests.{allAtMost}
 use Rattle.numbers.proofs.Int.{integers, parts-sub, natAbs-parts}
 use Rattle.numbers.proofs.TestLaws.{no-true, all-at-most-from}
-use Rattle.types.specs.declared.table.Table.{Table}
-use Rattle.table.specs.Table.{rows, value}
-use Rattle.table.specs.Witness.{countOf}
 use Rattle.types.specs.declared.vector.Vector.{Vector}
 use Rattle.types.specs.declared.state.State.{State}
 use Rattle.types.specs.declared.stage.Stage.{Stage}
 use Rattle.types.specs.declared.stage.Stage.the-variants.{Open, Found, Looped}
-use Rattle.machine.specs.Failing.{failing}
-use Rattle.machine.specs.Vector.{sign, sameVector}
+use Rattle.function.specs.Function.{Function, levels, rows, Fits}
+use Rattle.function.specs.Witness.{countOf}
+use Rattle.function.specs.Failing.{failing}
+use Rattle.function.specs.Vector.{sign, sameVector}
+use Rattle.function.specs.Binate.{zeros}
 use Rattle.state.specs.Machine.{corrected, withStage, markIf, marked, settled, closed, step}
 use Rattle.machine.specs.Power.{highest}
-use Rattle.machine.specs.Binate.{zeros}
 use Rattle.state.specs.Sound.{cap, Shaped, Traced, NotBinate, markFor, SoundIn, Sound}
 use Rattle.machine.proofs.HighestLaws.{highest-suc}
-use Rattle.machine.proofs.VectorLaws.{same-vector-correct, corrected-threshold, length-corrected, length-one-more}
+use Rattle.function.proofs.FunctionLaws.{level-below, level-none, cared-apart}
+use Rattle.function.proofs.VectorLaws.{same-vector-correct, corrected-threshold, length-corrected}
+use Rattle.function.proofs.CountLaws.{length-one-more, one-more-other, getD-zeros}
 use Rattle.machine.proofs.RangeLaws.{InRange, in-range-correct, in-range-wider, corrected-in-range}
 use Rattle.state.proofs.SoundBounds.{sound-in, sound-current, sound-copied}
-use Rattle.machine.proofs.FailingLaws.{failing-some}
+use Rattle.function.proofs.FailingLaws.{failing-some, fails-cared}
 use Rattle.state.proofs.MachineLaws.{corrected-is, closed-looped, closed-on, marked-power, marked-other, settled-found, settled-open, step-open}
 use Rattle.state.proofs.TraceLaws.{corrected-traced, marked-traced}
 
@@ -50,19 +52,20 @@ threshold-moved : (b s : ℤ) (y : Bool) → natAbs b ≤ 0 → natAbs s ≤ 0 �
 threshold-moved b s true h l e = omega (integers, natAbs-parts b, natAbs-parts s, parts-sub b (pos 1))
 threshold-moved b s false h l e = omega (integers, natAbs-parts b, natAbs-parts s, parts-sub b (negsuc 0))
 
-module _ (t : Table) where
+module _ (f : Function) where
   -- what the stages open, found and looped ask alike
   pub record Common (x : State) : Type 0 where
     pub shaped : Shaped x
     pub capped : x .k ≤ cap
-    pub current : InRange (x .k) (t .n) (x .v .a) (x .v .b)
-    pub copied : InRange (x .k) (t .n) (x .s .a) (x .s .b)
-    pub past : allAtMost 0 (drop (rows t) (x .counts)) ≡ true
-    pub traced : Traced t x
-    pub unate : NotBinate t
+    pub current : InRange (f .top * x .k) (f .places) (x .v .a) (x .v .b)
+    pub copied : InRange (f .top * x .k) (f .places) (x .s .a) (x .s .b)
+    pub cared : (r : ℕ) → f .cared r ≡ false → countOf (x .counts) r ≡ 0
+    pub past : allAtMost 0 (drop (rows f) (x .counts)) ≡ true
+    pub traced : Traced f x
+    pub unate : NotBinate f
 
   -- a sound open job has what the stages ask alike
-  common : (x : State) → Sound t x → x .stage ≡ Open → Common x
+  common : (x : State) → Sound f x → x .stage ≡ Open → Common x
   common x s e =
       let p = sound-in s Open e in
       record {
@@ -70,6 +73,7 @@ module _ (t : Table) where
         capped = s .capped;
         current = sound-current s;
         copied = sound-copied s;
+        cared = s .cared;
         past = s .past;
         traced = p .0;
         unate = p .1;
@@ -78,13 +82,14 @@ module _ (t : Table) where
   -- ---- the ends of a step
 
   -- with its mark and what the stage itself asks, such a job is sound in the stage
-  pub stage-sound : (stage : Stage) (x : State) → Common x → x .mark ≡ markFor stage (x .k) → (Traced t (withStage stage x) → SoundIn t stage (withStage stage x))
-      → Sound t (withStage stage x)
+  pub stage-sound : (stage : Stage) (x : State) → Common x → x .mark ≡ markFor stage (x .k) → (Traced f (withStage stage x) → SoundIn f stage (withStage stage x))
+      → Sound f (withStage stage x)
   stage-sound stage x c m says = record {
     shaped = record { weights = c .shaped .weights; copied = c .shaped .copied; counts = c .shaped .counts };
     capped = c .capped;
-    current = in-range-correct (x .k) (t .n) (x .v .a) (x .v .b) .1 (c .current);
-    copied = in-range-correct (x .k) (t .n) (x .s .a) (x .s .b) .1 (c .copied);
+    current = in-range-correct (f .top * x .k) (f .places) (x .v .a) (x .v .b) .1 (c .current);
+    copied = in-range-correct (f .top * x .k) (f .places) (x .s .a) (x .s .b) .1 (c .copied);
+    cared = c .cared;
     past = c .past;
     mark = m;
     staged = says (record { total = c .traced .total; sum = c .traced .sum });
@@ -92,101 +97,109 @@ module _ (t : Table) where
 
   -- after step 5 the job is sound
   settled-sound : (x : State) → x .stage ≡ Open → Common x → x .mark ≡ highest (x .k) → (x .v ≡ x .s → allAtMost 0 (x .counts) ≡ true)
-      → Sound t (settled t x)
-  settled-sound x e c m differs = by (failing t (x .v)) refl
+      → Sound f (settled f x)
+  settled-sound x e c m differs = by (failing f (x .v)) refl
     where
-      by : (o : Option ℕ) → failing t (x .v) ≡ o → Sound t (settled t x)
-      by none f = subst (Sound t) (sym (settled-found t x f)) (stage-sound Found x c m (λ traced. (traced, c .unate, f)))
-      by (some r) f =
-          subst (Sound t) (with-stage-same Open x e ∙ sym (settled-open t x r f)) (stage-sound Open x c m (λ traced. (traced, c .unate, (r, f), differs)))
+      by : (o : Option ℕ) → failing f (x .v) ≡ o → Sound f (settled f x)
+      by none g = subst (Sound f) (sym (settled-found f x g)) (stage-sound Found x c m (λ traced. (traced, c .unate, g)))
+      by (some r) g =
+          subst (Sound f) (with-stage-same Open x e ∙ sym (settled-open f x r g)) (stage-sound Open x c m (λ traced. (traced, c .unate, (r, g), differs)))
 
   -- ---- the mark
 
   -- a job at its mark has what the stages ask alike
-  marked-common : (x : State) → t .n ≤ 8 → Common x → Common (markIf true x)
-  marked-common x n c = record {
+  marked-common : (x : State) → Common x → Common (markIf true x)
+  marked-common x c = record {
     shaped = record { weights = c .shaped .weights; copied = c .shaped .weights; counts = length-replicate {A = ℕ} 256 0 };
     capped = c .capped;
     current = c .current;
     copied = c .current;
-    past = zeros-past (rows t);
-    traced = marked-traced t (markIf true x) n refl refl refl;
+    cared = λ r e. getD-zeros r;
+    past = zeros-past (rows f);
+    traced = marked-traced f (markIf true x) refl refl refl;
     unate = c .unate;
   }
 
   -- where v is not s, the job is sound after steps 4 and 5
-  marked-sound : (x : State) (k : ℕ) → t .n ≤ 8 → x .stage ≡ Open → Common x → x .k ≡ k + 1 → x .mark ≡ highest k
-      → sameVector (x .v) (x .s) ≡ false → Sound t (settled t (marked x))
-  marked-sound x k n e c more m differs = by (eqb (highest (x .k)) (x .k)) refl
+  marked-sound : (x : State) (k : ℕ) → x .stage ≡ Open → Common x → x .k ≡ k + 1 → x .mark ≡ highest k
+      → sameVector (x .v) (x .s) ≡ false → Sound f (settled f (marked x))
+  marked-sound x k e c more m differs = by (eqb (highest (x .k)) (x .k)) refl
     where
       kept : eqb (highest (x .k)) (x .k) ≡ false → x .mark ≡ highest (x .k)
-      kept f = m ∙ sym (ap highest more ∙ highest-suc k (omega (arith, c .capped)) (rw more at f))
+      kept g = m ∙ sym (ap highest more ∙ highest-suc k (omega (arith, c .capped)) (rw more at g))
 
-      by : (b : Bool) → eqb (highest (x .k)) (x .k) ≡ b → Sound t (settled t (marked x))
-      by true f =
-          rw (marked-power x f)
-          (settled-sound (markIf true x) e (marked-common x n c) (sym (eqb-true (highest (x .k)) (x .k) f)) (λ same. zeros-past 0))
-      by false f =
-          rw (marked-other x f) (settled-sound x e c (kept f) (λ same. absurd (no-true (sym differs ∙ same-vector-correct (x .v) (x .s) .1 same))))
+      by : (b : Bool) → eqb (highest (x .k)) (x .k) ≡ b → Sound f (settled f (marked x))
+      by true g =
+          rw (marked-power x g)
+          (settled-sound (markIf true x) e (marked-common x c) (sym (eqb-true (highest (x .k)) (x .k) g)) (λ same. zeros-past 0))
+      by false g =
+          rw (marked-other x g) (settled-sound x e c (kept g) (λ same. absurd (no-true (sym differs ∙ same-vector-correct (x .v) (x .s) .1 same))))
 
   -- the job is sound after steps 3, 4 and 5
-  closed-sound : (x : State) (k : ℕ) → t .n ≤ 8 → x .stage ≡ Open → Common x → x .k ≡ k + 1 → x .mark ≡ highest k
-      → (x .v ≡ x .s → 0 < k) → Sound t (closed t x)
-  closed-sound x k n e c more m moved = by (sameVector (x .v) (x .s)) refl
+  closed-sound : (x : State) (k : ℕ) → x .stage ≡ Open → Common x → x .k ≡ k + 1 → x .mark ≡ highest k
+      → (x .v ≡ x .s → 0 < k) → Sound f (closed f x)
+  closed-sound x k e c more m moved = by (sameVector (x .v) (x .s)) refl
     where
       less : k ≡ x .k - 1
       less = omega arith
 
-      by : (b : Bool) → sameVector (x .v) (x .s) ≡ b → Sound t (closed t x)
-      by true f =
-          let same = same-vector-correct (x .v) (x .s) .0 f in
+      by : (b : Bool) → sameVector (x .v) (x .s) ≡ b → Sound f (closed f x)
+      by true g =
+          let same = same-vector-correct (x .v) (x .s) .0 g in
           let two : 2 ≤ x .k = omega (arith, moved same) in
-          rw (closed-looped t x f) (stage-sound Looped x c (m ∙ ap highest less) (λ traced. (traced, c .unate, two, same)))
-      by false f = rw (closed-on t x f) (marked-sound x k n e c more m f)
+          rw (closed-looped f x g) (stage-sound Looped x c (m ∙ ap highest less) (λ traced. (traced, c .unate, two, same)))
+      by false g = rw (closed-on f x g) (marked-sound x k e c more m g)
 
   -- ---- the correction
 
   -- a correction keeps what the stages ask alike
-  corrected-common : (x : State) (r : ℕ) → t .n ≤ 8 → r < rows t → x .k < cap → Common x → Common (corrected t r x)
-  corrected-common x r n h l c = subst Common (sym (corrected-is t r x)) (record {
+  corrected-common : (x : State) (r : ℕ) → Fits f → r < rows f → f .cared r ≡ true → x .k < cap → Common x → Common (corrected f r x)
+  corrected-common x r n h care l c = subst Common (sym (corrected-is f r x)) (record {
     shaped = record {
-      weights = length-corrected y r (x .v) ∙ c .shaped .weights;
+      weights = length-corrected y (levels f r) (x .v) ∙ c .shaped .weights;
       copied = c .shaped .copied;
       counts = length-one-more r (x .counts) ∙ c .shaped .counts;
     };
     capped = omega arith;
-    current = corrected-in-range (x .k) (t .n) y r (x .v) h (c .shaped .weights) (c .current);
-    copied = in-range-wider (x .k + 1) (omega arith) (c .copied);
-    past = ap (allAtMost 0) (drop-set-lt (rows t) (x .counts) r (countOf (x .counts) r + 1) h) ∙ c .past;
-    traced = subst (Traced t) (corrected-is t r x) (corrected-traced t x r n h (c .shaped) (c .traced));
+    current = in-range-wider (f .top * (x .k + 1)) (omega (arith, mul-add (f .top) (x .k) 1))
+        (corrected-in-range (f .top * x .k) (f .top) (f .places) y (levels f r) (x .v) (n .leveled)
+        (λ place. omega (arith, level-below (f .top) r place))
+        (λ place k. level-none (f .top) r place h k)
+        (c .shaped .weights)
+        (c .current));
+    copied = in-range-wider (f .top * (x .k + 1)) (omega (arith, mul-add (f .top) (x .k) 1)) (c .copied);
+    cared = λ q e. one-more-other r q (x .counts) (cared-apart f e care) ∙ c .cared q e;
+    past = ap (allAtMost 0) (drop-set-lt (rows f) (x .counts) r (countOf (x .counts) r + 1) h) ∙ c .past;
+    traced = subst (Traced f) (corrected-is f r x) (corrected-traced f x r n h (c .shaped) (c .traced));
     unate = c .unate;
   })
     where
       y : Bool
-      y = value t r
+      y = f .value r
 
   -- so v is not s after the first correction
-  corrected-moved : (x : State) (r : ℕ) → Common x → (corrected t r x) .v ≡ (corrected t r x) .s → 0 < x .k
+  corrected-moved : (x : State) (r : ℕ) → Common x → (corrected f r x) .v ≡ (corrected f r x) .s → 0 < x .k
   corrected-moved x r c same = by (x .k) (c .current .threshold) (c .copied .threshold)
     where
       y : Bool
-      y = value t r
+      y = f .value r
 
       threshold : x .v .b -ℤ sign y ≡ x .s .b
-      threshold = sym (corrected-threshold y r (x .v)) ∙ ap (λ (u : Vector). u .b) (rw (corrected-is t r x) at same)
+      threshold = sym (corrected-threshold y (levels f r) (x .v)) ∙ ap (λ (u : Vector). u .b) (rw (corrected-is f r x) at same)
 
-      by : (k : ℕ) → natAbs (x .v .b) ≤ k → natAbs (x .s .b) ≤ k → 0 < k
-      by zero h l = absurd (threshold-moved (x .v .b) (x .s .b) y h l threshold)
+      by : (k : ℕ) → natAbs (x .v .b) ≤ f .top * k → natAbs (x .s .b) ≤ f .top * k → 0 < k
+      by zero h l = absurd (threshold-moved (x .v .b) (x .s .b) y (omega arith) (omega arith) threshold)
       by (suc k) h l = omega arith
 
   -- a step of a sound open job is sound
-  pub step-sound : (x : State) → t .n ≤ 8 → Sound t x → x .stage ≡ Open → x .k < cap → Sound t (step t x)
+  pub step-sound : (x : State) → Fits f → Sound f x → x .stage ≡ Open → x .k < cap → Sound f (step f x)
   step-sound x n s e l =
       let p = sound-in s Open e in
       let r = p .2 .0 in
       let c = common x s e in
-      let is = corrected-is t r x in
-      let row : r < rows t = omega (arith, failing-some t (x .v) r (p .2 .1) .inside) in
+      let is = corrected-is f r x in
+      let first = failing-some f (x .v) r (p .2 .1) in
+      let row : r < rows f = omega (arith, first .inside) in
       let mark : x .mark ≡ highest (x .k) = s .mark ∙ ap (λ (stage : Stage). markFor stage (x .k)) e in
-      rw (step-open t x r e (p .2 .1))
-      (closed-sound (corrected t r x) (x .k) n (rw is e) (corrected-common x r n row l c) (rw is refl) (rw is mark) (corrected-moved x r c))
+      rw (step-open f x r e (p .2 .1))
+      (closed-sound (corrected f r x) (x .k) (rw is e) (corrected-common x r n row (fails-cared f (x .v) r (first .passes)) l c) (rw is refl) (rw is mark) (corrected-moved x r c))

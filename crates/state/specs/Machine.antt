@@ -5,15 +5,14 @@ use mathlib.Core.List.{List}
 use mathlib.Core.Option.{Option, some, none}
 use Prim.Native.Nat.{ℕ, zero, suc, _+_}
 use lib.Dec.{eqb}
-use Rattle.types.specs.declared.table.Table.{Table}
 use Rattle.types.specs.declared.stage.Stage.{Stage}
 use Rattle.types.specs.declared.stage.Stage.the-variants.{Open, Found, Looped, Binate}
 use Rattle.types.specs.declared.state.State.{State}
-use Rattle.table.specs.Table.{value}
-use Rattle.machine.specs.Vector.{correctedBy, sameVector, zeroVector}
-use Rattle.machine.specs.Failing.{failing}
+use Rattle.function.specs.Function.{Function, levels}
+use Rattle.function.specs.Vector.{correctedBy, sameVector, zeroVector}
+use Rattle.function.specs.Failing.{failing}
+use Rattle.function.specs.Binate.{oneMore, zeros, binatePlace, binateCounts}
 use Rattle.machine.specs.Power.{highest}
-use Rattle.machine.specs.Binate.{oneMore, zeros, binatePlace, binateCounts}
 
 -- ---- fresh
 
@@ -21,18 +20,35 @@ use Rattle.machine.specs.Binate.{oneMore, zeros, binatePlace, binateCounts}
 abbrev pub startState : List ℕ → Stage → State
 startState counts stage = record { k = 0; v = zeroVector; mark = 0; s = zeroVector; counts = counts; stage = stage }
 
--- a binate table has the counts of its lowest binate input, in stage binate; any other is open
-abbrev pub freshBy : Table → Option ℕ → State
-freshBy t none = startState zeros Open
-freshBy t (some place) = startState (binateCounts t place) Binate
+-- where no input is binate: open, or found where no row fails. Every row that is cared for fails at v = 0, so a table's is open
+-- (claimed: `TablesAsWritten`)
+abbrev pub startStage : Option ℕ → Stage
+startStage (some r) = Open
+startStage none = Found
 
-unfoldable pub fresh : Table → State
-fresh t = freshBy t (binatePlace t)
+-- a function with a binate input has the counts of the lowest, in stage binate; any other has none
+abbrev pub freshBy : Function → Option ℕ → State
+freshBy f none = startState zeros (startStage (failing f zeroVector))
+freshBy f (some place) = startState (binateCounts f place) Binate
+
+unfoldable pub fresh : Function → State
+fresh f = freshBy f (binatePlace f)
 
 -- ---- one step
 
 abbrev pub withStage : Stage → State → State
 withStage stage x = record { k = x .k; v = x .v; mark = x .mark; s = x .s; counts = x .counts; stage = stage }
+
+-- steps 1 and 2: the correction of v by the row, K + 1, and the row's count + 1
+unfoldable pub corrected : Function → ℕ → State → State
+corrected f r x = record {
+  k = x .k + 1;
+  v = correctedBy (f .value r) (levels f r) (x .v);
+  mark = x .mark;
+  s = x .s;
+  counts = oneMore r (x .counts);
+  stage = x .stage;
+}
 
 -- step 4: if K is a power of two, M = K, s = v, all counts 0
 abbrev pub markIf : Bool → State → State
@@ -47,26 +63,14 @@ abbrev pub settleBy : Option ℕ → State → State
 settleBy none x = withStage Found x
 settleBy (some r) x = x
 
--- on a table
-module _ (t : Table) where
-  -- steps 1 and 2
-  unfoldable pub corrected : ℕ → State → State
-  corrected r x = record {
-    k = x .k + 1;
-    v = correctedBy (value t r) r (x .v);
-    mark = x .mark;
-    s = x .s;
-    counts = oneMore r (x .counts);
-    stage = x .stage;
-  }
+unfoldable pub settled : Function → State → State
+settled f x = settleBy (failing f (x .v)) x
 
-  unfoldable pub settled : State → State
-  settled x = settleBy (failing t (x .v)) x
-
+module _ (f : Function) where
   -- step 3: if v = s, the stage is looped, and steps 4 and 5 are left out
   abbrev pub closeIf : Bool → State → State
   closeIf true x = withStage Looped x
-  closeIf false x = settled (marked x)
+  closeIf false x = settled f (marked x)
 
   unfoldable pub closed : State → State
   closed x = closeIf (sameVector (x .v) (x .s)) x
@@ -74,11 +78,11 @@ module _ (t : Table) where
   -- the step by the lowest failing row
   abbrev pub stepBy : Option ℕ → State → State
   stepBy none x = x
-  stepBy (some r) x = closed (corrected r x)
+  stepBy (some r) x = closed (corrected f r x)
 
   -- an ended job steps no more
   unfoldable pub stepIn : Stage → State → State
-  stepIn Open x = stepBy (failing t (x .v)) x
+  stepIn Open x = stepBy (failing f (x .v)) x
   stepIn Found x = x
   stepIn Looped x = x
   stepIn Binate x = x

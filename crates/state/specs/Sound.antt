@@ -1,9 +1,9 @@
--- A sound job (document 01, "A sound job"): what it says of a table and a state, and the test that code computes. `is-sound-correct` of
--- proofs/ joins the two. Definitions only. Assumes nothing.
+-- A sound job (document 01, "The stepping machine"): what it says of a function and a state, and the test of a table's state that code computes.
+-- `is-sound-correct` of proofs/ joins the two. Definitions only. Assumes nothing.
 use mathlib.Core.Path.{_≡_}
 use mathlib.Core.Bool.{Bool, true, false, not, _&&_, _||_}
 use mathlib.Core.Option.{Option, some, none}
-use Prim.Native.Nat.{ℕ, suc, _+_, _-_, _≤_}
+use Prim.Native.Nat.{ℕ, suc, _+_, _-_, _*_, _≤_}
 use lib.Dec.{leb, eqb}
 use lib.ListN.{length, drop}
 use lib.IntN.{pos, _+ℤ_}
@@ -13,13 +13,15 @@ use Rattle.types.specs.declared.vector.Vector.{Vector}
 use Rattle.types.specs.declared.stage.Stage.{Stage}
 use Rattle.types.specs.declared.stage.Stage.the-variants.{Open, Found, Looped, Binate}
 use Rattle.types.specs.declared.state.State.{State}
-use Rattle.table.specs.Table.{rows}
+use Rattle.function.specs.Function.{Function, rows}
+use Rattle.function.specs.Witness.{sideSum, countOf}
+use Rattle.function.specs.Failing.{failing}
+use Rattle.function.specs.Vector.{sameZ, sameVector, zeroVector, component}
+use Rattle.function.specs.Binate.{binatePlace, binateCounts}
+use Rattle.table.specs.Table.{functionOf}
 use Rattle.table.specs.Gate.{inRange}
-use Rattle.table.specs.Witness.{sideSum, countOf, sameCounts}
-use Rattle.machine.specs.Failing.{failing}
-use Rattle.machine.specs.Vector.{sameZ, sameVector, zeroVector, component}
+use Rattle.table.specs.Witness.{sameCounts}
 use Rattle.machine.specs.Power.{highest}
-use Rattle.machine.specs.Binate.{binatePlace, binateCounts}
 
 -- the most corrections of a job
 abbrev pub cap : ℕ
@@ -46,50 +48,52 @@ markFor Binate k = highest k
 
 -- the counts add up to K − M, and v is s plus each row's correction times its count: true rows add their levels, false rows take
 -- theirs away
-pub record Traced (t : Table) (x : State) : Type 0 where
-  pub total : sideSum t true (countOf (x .counts)) 0 + sideSum t false (countOf (x .counts)) 0 + x .mark ≡ x .k
-  pub sum : (i : ℕ) → i ≤ t .n
-      → component (x .v) i +ℤ pos (sideSum t false (countOf (x .counts)) i) ≡ component (x .s) i +ℤ pos (sideSum t true (countOf (x .counts)) i)
+pub record Traced (f : Function) (x : State) : Type 0 where
+  pub total : sideSum f true (countOf (x .counts)) 0 + sideSum f false (countOf (x .counts)) 0 + x .mark ≡ x .k
+  pub sum : (i : ℕ) → i ≤ f .places
+      → component (x .v) i +ℤ pos (sideSum f false (countOf (x .counts)) i) ≡ component (x .s) i +ℤ pos (sideSum f true (countOf (x .counts)) i)
 
-abbrev pub NotBinate : Table → Type 0
-NotBinate t = binatePlace t ≡ none
+abbrev pub NotBinate : Function → Type 0
+NotBinate f = binatePlace f ≡ none
 
 -- what each stage asks besides
-abbrev pub SoundIn : Table → Stage → State → Type 0
-SoundIn t Open x = Traced t x × NotBinate t × ((r : ℕ) × (failing t (x .v) ≡ some r)) × (x .v ≡ x .s → allAtMost 0 (x .counts) ≡ true)
-SoundIn t Found x = Traced t x × NotBinate t × (failing t (x .v) ≡ none)
-SoundIn t Looped x = Traced t x × NotBinate t × (2 ≤ x .k) × (x .v ≡ x .s)
-SoundIn t Binate x =
-    (x .k ≡ 0) × (x .v ≡ zeroVector) × (x .s ≡ zeroVector) × ((place : ℕ) × (binatePlace t ≡ some place) × (x .counts ≡ binateCounts t place))
+abbrev pub SoundIn : Function → Stage → State → Type 0
+SoundIn f Open x = Traced f x × NotBinate f × ((r : ℕ) × (failing f (x .v) ≡ some r)) × (x .v ≡ x .s → allAtMost 0 (x .counts) ≡ true)
+SoundIn f Found x = Traced f x × NotBinate f × (failing f (x .v) ≡ none)
+SoundIn f Looped x = Traced f x × NotBinate f × (2 ≤ x .k) × (x .v ≡ x .s)
+SoundIn f Binate x =
+    (x .k ≡ 0) × (x .v ≡ zeroVector) × (x .s ≡ zeroVector) × ((place : ℕ) × (binatePlace f ≡ some place) × (x .counts ≡ binateCounts f place))
 
--- a sound job: the parts that every stage has, and what its own stage asks
-pub record Sound (t : Table) (x : State) : Type 0 where
+-- a sound job: the parts that every stage has, and what its own stage asks. The components are within ±(top × K), which is ±K on a table;
+-- rows that are not cared for and those past the last have no count
+pub record Sound (f : Function) (x : State) : Type 0 where
   pub shaped : Shaped x
   pub capped : x .k ≤ cap
-  pub current : Ranged (x .k) (t .n) (x .v)
-  pub copied : Ranged (x .k) (t .n) (x .s)
-  pub past : allAtMost 0 (drop (rows t) (x .counts)) ≡ true
+  pub current : Ranged (f .top * x .k) (f .places) (x .v)
+  pub copied : Ranged (f .top * x .k) (f .places) (x .s)
+  pub cared : (r : ℕ) → f .cared r ≡ false → countOf (x .counts) r ≡ 0
+  pub past : allAtMost 0 (drop (rows f) (x .counts)) ≡ true
   pub mark : x .mark ≡ markFor (x .stage) (x .k)
-  pub staged : SoundIn t (x .stage) x
+  pub staged : SoundIn f (x .stage) x
 
 -- ---- the test, part by part
 
 unfoldable pub isTraced : Table → State → Bool
 isTraced t x =
-    eqb (sideSum t true (countOf (x .counts)) 0 + sideSum t false (countOf (x .counts)) 0 + x .mark) (x .k)
+    eqb (sideSum (functionOf t) true (countOf (x .counts)) 0 + sideSum (functionOf t) false (countOf (x .counts)) 0 + x .mark) (x .k)
     && allBelow (suc (t .n))
-    (λ i. sameZ (component (x .v) i +ℤ pos (sideSum t false (countOf (x .counts)) i)) (component (x .s) i +ℤ pos (sideSum t true (countOf (x .counts)) i)))
+    (λ i. sameZ (component (x .v) i +ℤ pos (sideSum (functionOf t) false (countOf (x .counts)) i)) (component (x .s) i +ℤ pos (sideSum (functionOf t) true (countOf (x .counts)) i)))
 
 abbrev pub isBinateWith : Table → Option ℕ → State → Bool
 isBinateWith t none x = false
-isBinateWith t (some place) x = sameCounts (x .counts) (binateCounts t place)
+isBinateWith t (some place) x = sameCounts (x .counts) (binateCounts (functionOf t) place)
 
 unfoldable pub soundIn : Table → Stage → State → Bool
 soundIn t Open x =
-    isTraced t x && not (isSome (binatePlace t)) && isSome (failing t (x .v)) && (not (sameVector (x .v) (x .s)) || allAtMost 0 (x .counts))
-soundIn t Found x = isTraced t x && not (isSome (binatePlace t)) && not (isSome (failing t (x .v)))
-soundIn t Looped x = isTraced t x && not (isSome (binatePlace t)) && leb 2 (x .k) && sameVector (x .v) (x .s)
-soundIn t Binate x = eqb (x .k) 0 && sameVector (x .v) zeroVector && sameVector (x .s) zeroVector && isBinateWith t (binatePlace t) x
+    isTraced t x && not (isSome (binatePlace (functionOf t))) && isSome (failing (functionOf t) (x .v)) && (not (sameVector (x .v) (x .s)) || allAtMost 0 (x .counts))
+soundIn t Found x = isTraced t x && not (isSome (binatePlace (functionOf t))) && not (isSome (failing (functionOf t) (x .v)))
+soundIn t Looped x = isTraced t x && not (isSome (binatePlace (functionOf t))) && leb 2 (x .k) && sameVector (x .v) (x .s)
+soundIn t Binate x = eqb (x .k) 0 && sameVector (x .v) zeroVector && sameVector (x .s) zeroVector && isBinateWith t (binatePlace (functionOf t)) x
 
 abbrev pub isShaped : State → Bool
 isShaped x = eqb (length (x .v .a)) 8 && eqb (length (x .s .a)) 8 && eqb (length (x .counts)) 256
@@ -100,6 +104,6 @@ isSound t x =
     && leb (x .k) cap
     && inRange (x .k) (t .n) (x .v .a) (x .v .b)
     && inRange (x .k) (t .n) (x .s .a) (x .s .b)
-    && allAtMost 0 (drop (rows t) (x .counts))
+    && allAtMost 0 (drop (rows (functionOf t)) (x .counts))
     && eqb (x .mark) (markFor (x .stage) (x .k))
     && soundIn t (x .stage) x

@@ -8,6 +8,7 @@ ghost use Prim.Native.Nat.{_≤_};
 ghost use Rattle.machine.specs.Scan.{Holds};
 ghost use Rattle.lanes.specs.Codes.{stepAt};
 ghost use Rattle.state.specs.Machine.{run, fresh, callBudget};
+ghost use Rattle.table.specs.Table.{functionOf};
 
 // The most corrections of one call.
 pub const CALL_BUDGET: u32 = 100_000;
@@ -16,7 +17,7 @@ pub const CALL_BUDGET: u32 = 100_000;
 // steps.
 pub fn decided_by(table: Table, step: &[i16; 2048]) -> State
     requires { ⌜ (table .n ≤ 8) × Holds stepAt 2048 (now step) ⌝ }
-    ensures { λ r. ⌜ r ≡ run table callBudget (fresh table) ⌝ }
+    ensures { λ r. ⌜ r ≡ run (functionOf table) callBudget (fresh (functionOf table)) ⌝ }
 {
     steps(table, fresh_state(table), CALL_BUDGET, step)
 }

@@ -9,6 +9,7 @@ use types::vector::Vector;
 ghost use mathlib.Core.Path.{_≡_};
 ghost use Prim.Native.Nat.{_≤_};
 ghost use Rattle.state.specs.Machine.{startState, fresh};
+ghost use Rattle.table.specs.Table.{functionOf};
 
 // Returns the state with all numbers 0 but the counts.
 pub fn start_state(counts: [u32; 256], stage: Stage) -> State
@@ -28,7 +29,7 @@ pub fn start_state(counts: [u32; 256], stage: Stage) -> State
 // Returns the fresh state of a table: open, or binate with the counts that show it.
 pub fn fresh_state(table: Table) -> State
     requires { ⌜ table .n ≤ 8 ⌝ }
-    ensures { λ r. ⌜ r ≡ fresh table ⌝ }
+    ensures { λ r. ⌜ r ≡ fresh (functionOf table) ⌝ }
 {
     let Found::Row(place) = binate_place(table) else {
         return start_state([0u32; 256], Stage::Open);

@@ -25,6 +25,7 @@ ghost use Rattle.lanes.specs.Codes.{stepAt};
 ghost use Rattle.chunks.specs.Core.{stateOf};
 ghost use Rattle.state.specs.Machine.{withStage, run};
 ghost use Rattle.state.specs.Sound.{cap, Sound};
+ghost use Rattle.table.specs.Table.{functionOf};
 
 // Whether the stage is an end.
 pub fn is_ended(stage: Stage) -> bool
@@ -57,8 +58,8 @@ fn with_stage(state: State, stage: Stage) -> State
 
 // Returns the state after so many steps, or at its end. A step makes one search: the row that it finds is the next step's.
 fn plain_steps(table: Table, state: State, budget: u32) -> State
-    requires { ⌜ (table .n ≤ 8) × Sound table state × (state .stage ≡ Stage.Open) × (state .k + budget ≤ cap) ⌝ }
-    ensures { λ r. ⌜ r ≡ run table budget state ⌝ }
+    requires { ⌜ (table .n ≤ 8) × Sound (functionOf table) state × (state .stage ≡ Stage.Open) × (state .k + budget ≤ cap) ⌝ }
+    ensures { λ r. ⌜ r ≡ run (functionOf table) budget state ⌝ }
 {
     let values = row_values(table);
     let mut distances = [0i32; 256];
@@ -124,8 +125,8 @@ fn fast_steps(
     budget: u32,
     steps: &[i16; 2048],
 ) -> Way
-    requires { ⌜ (table .n ≤ 8) × Sound table (stateOf start (now counts)) × (start .k + budget ≤ cap) × Holds stepAt 2048 (now steps) ⌝ }
-    ensures { λ r. ⌜ (r .left ≤ budget) × (stateOf (r .core) (now (counts .exit)) ≡ run table (budget - r .left) (stateOf start (now (counts .entry)))) ⌝ }
+    requires { ⌜ (table .n ≤ 8) × Sound (functionOf table) (stateOf start (now counts)) × (start .k + budget ≤ cap) × Holds stepAt 2048 (now steps) ⌝ }
+    ensures { λ r. ⌜ (r .left ≤ budget) × (stateOf (r .core) (now (counts .exit)) ≡ run (functionOf table) (budget - r .left) (stateOf start (now (counts .entry)))) ⌝ }
 {
     let mut core = start;
     let mut left = budget;
@@ -139,8 +140,8 @@ fn fast_steps(
 
 // Returns the state after so many steps, or at its end. `step` is the table of steps.
 pub fn steps(table: Table, state: State, budget: u32, step: &[i16; 2048]) -> State
-    requires { ⌜ (table .n ≤ 8) × Sound table state × (state .k + budget ≤ cap) × Holds stepAt 2048 (now step) ⌝ }
-    ensures { λ r. ⌜ r ≡ run table budget state ⌝ }
+    requires { ⌜ (table .n ≤ 8) × Sound (functionOf table) state × (state .k + budget ≤ cap) × Holds stepAt 2048 (now step) ⌝ }
+    ensures { λ r. ⌜ r ≡ run (functionOf table) budget state ⌝ }
 {
     let mut counts = state.counts;
     let way = fast_steps(table, core_of(state), &mut counts, budget, step);

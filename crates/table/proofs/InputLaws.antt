@@ -2,28 +2,28 @@
 -- and its kind. Assumes nothing.
 use mathlib.Core.Path.{_≡_, refl, sym, _∙_, ap}
 use mathlib.Core.Bool.{Bool, true, false, not, Bool·beq, _&&_}
-use mathlib.Core.Logic.{_↔_}
 use mathlib.Core.Option.{Option, some, none}
 use Prim.Native.Nat.{ℕ, zero, suc, _+_, _*_, _^_, _≤_, _<_}
 use native.Mathlib.Nat.{mul-le-mul-left}
 use native.Mathlib.Numerals.{add-one}
 use native.Mathlib.Omega.{arith}
-use borrow.Author.Tests.{lt-ltb, le-ltb, eqb-true, eq-eqb}
-use lib.Dec.{eqb}
+use borrow.Author.Tests.{lt-ltb, le-ltb}
 use lib.IntN.{pos, _-ℤ_}
 use Rattle.table.specs.declared.inputs.Found.the-variants.{Row, Nowhere}
 use Rattle.numbers.specs.Sum.{sumBelow}
-use Rattle.numbers.specs.Tests.{sameBool, firstFrom, isSome}
-use Rattle.numbers.proofs.SumLaws.{sum-below-ext, sum-below-most}
-use Rattle.numbers.proofs.TestLaws.{and-left, and-right, and-both, same-bool-eq, eq-same-bool, same-bool-beq}
-use Rattle.numbers.proofs.FirstLaws.{IsFirst, first-some, first-none}
+use Rattle.numbers.specs.Tests.{sameBool, isSome}
+use Rattle.numbers.proofs.SumLaws.{sum-below-most}
+use Rattle.numbers.proofs.TestLaws.{same-bool-beq}
 use Rattle.types.specs.declared.table.Table.{Table}
 use Rattle.types.specs.declared.inputs.InputKind.the-variants.{Idle}
-use Rattle.table.specs.Table.{rows, level, value}
-use Rattle.table.specs.Witness.{inputLevel, onlyIf, sideSum}
-use Rattle.table.specs.Inputs.{turnsAt, firstTurn, found, isRow, kindBy, kindAt}
+use Rattle.table.specs.Table.{rows, value, functionOf}
+use Rattle.function.specs.Function.{level}
+use Rattle.function.specs.Witness.{inputLevel, onlyIf}
+use Rattle.table.specs.Inputs.{found, isRow, kindBy, kindAt}
+use Rattle.function.specs.Turns.{turnsAt, firstTurn}
 use Rattle.table.specs.Chow.{trueRows, chowAt}
 use Rattle.table.proofs.TableLaws.{rows-le, level-lt}
+use Rattle.function.proofs.WitnessLaws.{sideTerm, side-sum-terms}
 
 -- a value that code read is on a side as the code's comparison says
 pub same-bool-read : {v w flag : Bool} (side : Bool) → v ≡ w → Bool·beq v side ≡ flag → sameBool w side ≡ flag
@@ -32,44 +32,28 @@ same-bool-read {v} side e k = ap (λ (x : Bool). sameBool x side) (sym e) ∙ sy
 -- ---- sums over the rows of a side
 
 -- an input's level is at most 1
-pub input-level-le : (r i : ℕ) → inputLevel r i ≤ 1
+pub input-level-le : (r i : ℕ) → inputLevel (level 2 r) i ≤ 1
 input-level-le r zero = omega arith
 input-level-le r (suc place) = omega (arith, level-lt r place)
 
 -- a count times a level is at most the count
-pub count-level-le : (x r i : ℕ) → x * inputLevel r i ≤ x
+pub count-level-le : (x r i : ℕ) → x * inputLevel (level 2 r) i ≤ x
 count-level-le x r i = omega (arith, mul-le-mul-left x (input-level-le r i))
 
--- what a row adds to the sum of a side
-abbrev pub sideTerm : Table → Bool → (ℕ → ℕ) → ℕ → ℕ → ℕ
-sideTerm t side count i r = onlyIf (sameBool (value t r) side) (count r * inputLevel r i)
-
--- the sum of a side is what its rows add
-pub side-sum-terms : (t : Table) (side : Bool) (count : ℕ → ℕ) (i : ℕ) → sideSum t side count i ≡ sumBelow (rows t) (sideTerm t side count i)
-unfolding sideSum
-side-sum-terms t side count i = refl
-
 -- a row adds at most its count
-pub side-term-le : (t : Table) (side : Bool) (count : ℕ → ℕ) (i r : ℕ) → sideTerm t side count i r ≤ count r
+pub side-term-le : (t : Table) (side : Bool) (count : ℕ → ℕ) (i r : ℕ) → sideTerm (functionOf t) side count i r ≤ count r
 side-term-le t side count i r = by (sameBool (value t r) side)
   where
-    by : (v : Bool) → onlyIf v (count r * inputLevel r i) ≤ count r
+    by : (v : Bool) → onlyIf v (count r * inputLevel (level 2 r) i) ≤ count r
     by true = count-level-le (count r) r i
     by false = omega arith
 
 -- the rows below m add at most m times the most that a count is
 pub side-terms-le : (t : Table) (side : Bool) (count : ℕ → ℕ) (i most : ℕ) → ((r : ℕ) → count r ≤ most)
     → (m : ℕ)
-    → sumBelow m (sideTerm t side count i) ≤ m * most
+    → sumBelow m (sideTerm (functionOf t) side count i) ≤ m * most
 side-terms-le t side count i most h m =
-    sum-below-most m most (sideTerm t side count i) (λ r k. omega (arith, side-term-le t side count i r, h r))
-
--- counts that agree on the table's rows have the same sums
-pub side-sum-ext : (t : Table) (side : Bool) (f g : ℕ → ℕ) (i : ℕ) → ((r : ℕ) → r < rows t → f r ≡ g r) → sideSum t side f i ≡ sideSum t side g i
-unfolding sideSum
-side-sum-ext t side f g i h =
-    sum-below-ext (rows t) (sideTerm t side f i) (sideTerm t side g i)
-    (λ r k. ap (λ (x : ℕ). onlyIf (sameBool (value t r) side) (x * inputLevel r i)) (h r k))
+    sum-below-most m most (sideTerm (functionOf t) side count i) (λ r k. omega (arith, side-term-le t side count i r, h r))
 
 -- ---- Chow's parameters
 
@@ -77,7 +61,7 @@ side-sum-ext t side f g i h =
 pub true-rows-le : (t : Table) (i : ℕ) → t .n ≤ 8 → trueRows t i ≤ 256
 unfolding trueRows
 true-rows-le t i h =
-    omega (arith, rows-le h, side-sum-terms t true (λ r. 1) i, side-terms-le t true (λ r. 1) i 1 (λ r. omega arith) (rows t))
+    omega (arith, rows-le h, side-sum-terms (functionOf t) true (λ r. 1) i, side-terms-le t true (λ r. 1) i 1 (λ r. omega arith) (rows t))
 
 -- q of an input of the table is 2pi − p0
 pub chow-at-inside : (t : Table) (place : ℕ) → place < t .n → chowAt t place ≡ pos (2 * trueRows t (place + 1)) -ℤ pos (trueRows t 0)
@@ -91,47 +75,14 @@ chow-at-past t place h = rw (le-ltb place (t .n) h)
 
 -- ---- turns
 
--- row r lacks the place's input and has not the value `to`, and its partner, which has the input, has it
-pub record Turns (t : Table) (to : Bool) (place r : ℕ) : Type 0 where
-  pub lacks : level 2 r place ≡ 0
-  pub own : value t r ≡ not to
-  pub partner : value t (r + 2 ^ place) ≡ to
-
 module _ (t : Table) (to : Bool) (place : ℕ) where
-  -- the test that an input turns the value in a row says so
-  pub turns-at-correct : (r : ℕ) → turnsAt t to place r ≡ true ↔ Turns t to place r
-  unfolding turnsAt
-  turns-at-correct r = (turns, passes)
-    where
-      lacking : Bool
-      lacking = eqb (level 2 r place) 0
-
-      differs : Bool
-      differs = sameBool (value t r) (not to)
-
-      reaches : Bool
-      reaches = sameBool (value t (r + 2 ^ place)) to
-
-      turns : turnsAt t to place r ≡ true → Turns t to place r
-      turns e =
-          let first = and-left (lacking && differs) reaches e in
-          record {
-            lacks = eqb-true _ _ (and-left lacking differs first);
-            own = same-bool-eq _ _ (and-right lacking differs first);
-            partner = same-bool-eq _ _ (and-right (lacking && differs) reaches e);
-          }
-
-      passes : Turns t to place r → turnsAt t to place r ≡ true
-      passes h =
-          and-both (and-both (eq-eqb _ _ (h .lacks)) (eq-same-bool (value t r) (not to) (h .own))) (eq-same-bool (value t (r + 2 ^ place)) to (h .partner))
-
   -- a row with the input does not turn
-  pub turns-at-has : (r : ℕ) → level 2 r place ≡ 1 → turnsAt t to place r ≡ false
+  pub turns-at-has : (r : ℕ) → level 2 r place ≡ 1 → turnsAt (functionOf t) to place r ≡ false
   unfolding turnsAt
   turns-at-has r h = rw h
 
   -- a row without it turns where its own value is not `to` and its partner's is
-  pub turns-at-lacks : (r : ℕ) → level 2 r place ≡ 0 → turnsAt t to place r ≡ (not (sameBool (value t r) to) && sameBool (value t (r + 2 ^ place)) to)
+  pub turns-at-lacks : (r : ℕ) → level 2 r place ≡ 0 → turnsAt (functionOf t) to place r ≡ (not (sameBool (value t r) to) && sameBool (value t (r + 2 ^ place)) to)
   unfolding turnsAt
   turns-at-lacks r h = rw h (ap (λ (v : Bool). v && sameBool (value t (r + 2 ^ place)) to) (by (value t r) to))
     where
@@ -139,19 +90,6 @@ module _ (t : Table) (to : Bool) (place : ℕ) where
       by true b = refl
       by false true = refl
       by false false = refl
-
-  -- the first turn is a search through the table's rows
-  pub first-turn-search : firstTurn t to place ≡ firstFrom (turnsAt t to place) (rows t) 0
-  unfolding firstTurn
-  first-turn-search = refl
-
-  -- a first turn that is found is the lowest row that turns
-  pub first-turn-some : (r : ℕ) → firstTurn t to place ≡ some r → IsFirst (turnsAt t to place) (rows t) 0 r
-  first-turn-some r e = first-some (turnsAt t to place) (rows t) 0 r (sym first-turn-search ∙ e)
-
-  -- where none is found no row turns
-  pub first-turn-none : firstTurn t to place ≡ none → (r : ℕ) → r < rows t → turnsAt t to place r ≡ false
-  first-turn-none e r h = first-none (turnsAt t to place) (rows t) 0 (sym first-turn-search ∙ e) r (omega arith) (omega arith)
 
 -- ---- kinds
 
@@ -175,7 +113,7 @@ is-row-found none = refl
 is-row-found (some r) = refl
 
 -- the kind of an input of the table, by its two searches
-pub kind-at-inside : (t : Table) (place : ℕ) → place < t .n → kindAt t place ≡ kindBy (isSome (firstTurn t true place)) (isSome (firstTurn t false place))
+pub kind-at-inside : (t : Table) (place : ℕ) → place < t .n → kindAt t place ≡ kindBy (isSome (firstTurn (functionOf t) true place)) (isSome (firstTurn (functionOf t) false place))
 unfolding kindAt
 kind-at-inside t place h = rw (lt-ltb place (t .n) h)
 

@@ -1,5 +1,5 @@
 pub mod TableLaws
+pub mod OnTables
 pub mod GateLaws
 pub mod WitnessLaws
 pub mod InputLaws
-pub mod Summability

@@ -1,15 +1,18 @@
 -- Laws of tables: how many rows and bytes there are, the levels of a row's inputs, and the bits that must be 0. Assumes nothing.
-use mathlib.Core.Path.{_≡_, ap, subst}
+use mathlib.Core.Path.{_≡_}
 use mathlib.Core.Bool.{true, not}
 use mathlib.Core.List.{List}
-use Prim.Native.Nat.{ℕ, suc, _+_, _-_, _/_, _%_, _^_, _≤_, _<_}
-use native.Mathlib.Nat.{div-eq-of-lt, div-lt-iff-lt-mul, le-div-iff-mul-le, lt-of-lt-of-le, mod-lt, mul-le-mul-right}
+use Prim.Native.Nat.{ℕ, _+_, _-_, _/_, _^_, _≤_, _<_}
+use native.Mathlib.Nat.{div-lt-iff-lt-mul, le-div-iff-mul-le, lt-of-lt-of-le}
 use native.Mathlib.Omega.{arith}
 use lib.ListN.{drop, getD}
-use lib.Pow.{pow-pos, pow-mono, pow-add, shr-lt, split}
+use lib.Pow.{pow-pos, pow-mono}
 use borrow.Author.Tests.{lt-ltb, le-ltb}
 use Rattle.numbers.specs.Tests.{allAtMost}
-use Rattle.table.specs.Table.{rowsOf, level, byteCount, spareSet}
+use Rattle.table.specs.Table.{rowsOf, byteCount, spareSet, functionOf}
+use Rattle.types.specs.declared.table.Table.{Table}
+use Rattle.function.specs.Function.{level, Fits}
+use Rattle.function.proofs.FunctionLaws.{unit, level-below, level-none, raised-below, raised-level}
 
 -- eight inputs and fewer have at most 256 rows
 pub rows-le : {n : ℕ} → n ≤ 8 → 2 ^ n ≤ 256
@@ -21,24 +24,23 @@ bytes-le h = omega (arith, rows-le h)
 
 -- a level is 0 or 1
 pub level-lt : (r place : ℕ) → level 2 r place < 2
-level-lt r place = mod-lt (r / 2 ^ place) (omega arith)
+level-lt r place = level-below 1 r place
 
 -- an input past those of a row has level 0
 pub level-past : {n : ℕ} (r place : ℕ) → r < 2 ^ n → n ≤ place → level 2 r place ≡ 0
-level-past r place h k = ap (λ (x : ℕ). x % 2) (div-eq-of-lt (lt-of-lt-of-le h (pow-mono k)))
+level-past r place h k = level-none 1 r place h k
 
 -- a row that lacks an input has a partner among the rows, which has it
 pub partner-below : (n r place : ℕ) → place < n → level 2 r place ≡ 0 → r < 2 ^ n → r + 2 ^ place < 2 ^ n
-partner-below n r place k e h = subst (λ (x : ℕ). r + 2 ^ place < 2 ^ x) split-n (within (n - suc place) (rw split-n h))
-  where
-    split-n : suc (n - suc place) + place ≡ n
-    split-n = omega arith
+partner-below n r place k e h = raised-below 1 n r place k (omega arith) h
 
-    within : (d : ℕ) → r < 2 ^ (suc d + place) → r + 2 ^ place < 2 ^ (suc d + place)
-    within d b =
-        let high : r / 2 ^ place < 2 ^ suc d = shr-lt (suc d) place b in
-        let next : r / 2 ^ place + 2 ≤ 2 ^ suc d = omega arith in
-        omega (arith, pow-add 2 (suc d) place, split r place, mod-lt r (pow-pos place), mul-le-mul-right (2 ^ place) next)
+-- it has the same levels, and that input besides
+pub partner-level : (place other r : ℕ) → level 2 r place ≡ 0 → level 2 (r + 2 ^ place) other ≡ level 2 r other + unit place other
+partner-level place other r e = raised-level 1 place other r (omega arith)
+
+-- the function of a table of at most eight inputs fits the code's arrays
+pub table-fits : (t : Table) → t .n ≤ 8 → Fits (functionOf t)
+table-fits t h = record { leveled = omega arith; places = h; rows = rows-le h }
 
 -- a shift that leaves no bits has passed all of them
 pub shift-none : (b k : ℕ) → b / 2 ^ k ≡ 0 → b < 2 ^ k

@@ -6,12 +6,13 @@ use lib.Dec.{ltb}
 use lib.IntN.{ℤ, pos, _-ℤ_}
 use Rattle.numbers.specs.Tabulate.{tabulate}
 use Rattle.types.specs.declared.table.Table.{Table}
-use Rattle.table.specs.Witness.{sideSum}
+use Rattle.function.specs.Witness.{sideSum}
+use Rattle.table.specs.Table.{functionOf}
 
 -- p0 is the count of true rows, pi that of true rows with input i
 unfoldable pub trueRows : Table → ℕ → ℕ
 unfolding sideSum
-trueRows t i = sideSum t true (λ r. 1) i
+trueRows t i = sideSum (functionOf t) true (λ r. 1) i
 
 -- q of the input at a place, 2pi − p0; past n it is 0
 unfoldable pub chowAt : Table → ℕ → ℤ

@@ -1,36 +1,23 @@
--- A gate: its distance and its value on a row, when it realises a table, and the ranges of its numbers (document 01, "Table, gate,
--- witness"). Weights and T are integers of any size here; `Gate` is the record that code holds. Definitions only. Assumes nothing.
-use mathlib.Core.Path.{_≡_}
+-- A gate: the test that it realises a table, and the ranges of its numbers (document 01, "Table, gate, witness"). `Gate` is the record
+-- that code holds. Definitions only. Assumes nothing.
 use mathlib.Core.Bool.{Bool, not, cond, _&&_}
 use mathlib.Core.List.{List}
-use Prim.Native.Nat.{ℕ, _<_}
+use Prim.Native.Nat.{ℕ}
 use lib.Dec.{ltb}
 use lib.ListN.{getD}
-use lib.IntN.{ℤ, pos, negℤ, _-ℤ_}
+use lib.IntN.{ℤ, pos, negℤ}
 use lib.Signed.{leZ}
-use Rattle.numbers.specs.Sum.{weightedSum}
 use Rattle.numbers.specs.Tests.{sameBool, allBelow}
 use Rattle.types.specs.declared.table.Table.{Table}
 use Rattle.types.specs.declared.gate.Gate.{Gate}
-use Rattle.table.specs.Table.{rows, level, value}
-
--- the distance d of row r: the sum of the weights of its true inputs, less T
-unfoldable pub distance : List ℤ → ℤ → ℕ → ℤ
-unfolding weightedSum
-distance ws th r = weightedSum ws (level 2 r) -ℤ th
-
--- the gate rule (source document 000, equation 1): true on a row when the sum is at least T
-abbrev pub gateTrue : List ℤ → ℤ → ℕ → Bool
-gateTrue ws th r = leZ (pos 0) (distance ws th r)
-
--- integer weights and a T, of any size, that agree with the table on every row
-abbrev pub Realises : List ℤ → ℤ → Table → Type 0
-Realises ws th t = (r : ℕ) → r < rows t → gateTrue ws th r ≡ value t r
+use Rattle.table.specs.Table.{rows, value}
+use Rattle.function.specs.Function.{level}
+use Rattle.function.specs.Gate.{distance, gateTrue}
 
 -- the test that a gate agrees with the table on every row
 unfoldable pub realises : Table → Gate → Bool
 unfolding allBelow distance
-realises t g = allBelow (rows t) (λ r. sameBool (gateTrue (g .weights) (g .threshold) r) (value t r))
+realises t g = allBelow (rows t) (λ r. sameBool (gateTrue (g .weights) (g .threshold) (level 2 r)) (value t r))
 
 -- weights and T lie within ±1,000,000
 abbrev pub weightLimit : ℕ

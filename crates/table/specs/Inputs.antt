@@ -1,11 +1,11 @@
 -- The kinds of inputs (document 01, "Kinds, Chow, report" and "The stepping machine"; source document 000, algorithm 1).
 -- Definitions only. Assumes nothing.
-use mathlib.Core.Bool.{Bool, true, false, not, _&&_}
+use mathlib.Core.Bool.{Bool, true, false, _&&_}
 use mathlib.Core.List.{List}
 use mathlib.Core.Option.{Option, some, none}
-use Prim.Native.Nat.{ℕ, _+_, _^_}
-use lib.Dec.{eqb, ltb}
-use Rattle.numbers.specs.Tests.{sameBool, firstFrom, isSome}
+use Prim.Native.Nat.{ℕ}
+use lib.Dec.{ltb}
+use Rattle.numbers.specs.Tests.{isSome}
 use Rattle.numbers.specs.Tabulate.{tabulate}
 use Rattle.types.specs.declared.table.Table.{Table}
 use Rattle.types.specs.declared.inputs.InputKind.{InputKind}
@@ -13,16 +13,8 @@ use Rattle.types.specs.declared.inputs.InputKind.the-variants.{Idle, Rising, Fa
 use Rattle.types.specs.declared.inputs.Place.{Place}
 use Rattle.table.specs.declared.inputs.Found.{Found}
 use Rattle.table.specs.declared.inputs.Found.the-variants.{Row, Nowhere}
-use Rattle.table.specs.Table.{rows, level, value}
-
--- row r lacks the place's input, and making it true turns the table's value to `to`
-unfoldable pub turnsAt : Table → Bool → ℕ → ℕ → Bool
-turnsAt t to place r = eqb (level 2 r place) 0 && sameBool (value t r) (not to) && sameBool (value t (r + 2 ^ place)) to
-
--- the lowest row in which the place's input turns the value to `to`
-unfoldable pub firstTurn : Table → Bool → ℕ → Option ℕ
-unfolding firstFrom turnsAt
-firstTurn t to place = firstFrom (turnsAt t to place) (rows t) 0
+use Rattle.table.specs.Table.{functionOf}
+use Rattle.function.specs.Turns.{firstTurn}
 
 -- the enum that code answers a search with
 abbrev pub found : Option ℕ → Found
@@ -44,7 +36,7 @@ kindBy true true = Binate
 -- the kind at a place; past n it is idle
 unfoldable pub kindAt : Table → ℕ → InputKind
 unfolding firstTurn
-kindAt t place = kindBy (ltb place (t .n) && isSome (firstTurn t true place)) (ltb place (t .n) && isSome (firstTurn t false place))
+kindAt t place = kindBy (ltb place (t .n) && isSome (firstTurn (functionOf t) true place)) (ltb place (t .n) && isSome (firstTurn (functionOf t) false place))
 
 abbrev pub placeAt : Table → ℕ → Place
 placeAt t place = record { kind = kindAt t place }

@@ -1,12 +1,13 @@
--- A truth table: its rows, its value on a row, and the bits that must be 0 (document 01, "Table, gate, witness").
+-- A truth table: its rows, its value on a row, its function, and the bits that must be 0 (document 01, "Table, gate, witness").
 -- Definitions only. Assumes nothing.
-use mathlib.Core.Bool.{Bool, not, _||_}
+use mathlib.Core.Bool.{Bool, true, not, _||_}
 use mathlib.Core.List.{List}
 use Prim.Native.Nat.{ℕ, _+_, _/_, _%_, _^_}
 use lib.Dec.{eqb, ltb}
 use lib.ListN.{getD, drop}
 use Rattle.numbers.specs.Tests.{allAtMost}
 use Rattle.types.specs.declared.table.Table.{Table}
+use Rattle.function.specs.Function.{Function}
 
 -- the most inputs of a table
 abbrev pub inputLimit : ℕ
@@ -19,11 +20,6 @@ rowsOf n = 2 ^ n
 abbrev pub rows : Table → ℕ
 rows t = rowsOf (t .n)
 
--- the level of a place (input i stands at place i − 1) in a row: a digit of the row's number, lowest first. In base 2 it is 1 where
--- the input is true
-abbrev pub level : (base row place : ℕ) → ℕ
-level base row place = row / base ^ place % base
-
 -- row r's bit: bit r mod 8 of byte r div 8, lowest bit first
 unfoldable pub bitAt : List ℕ → ℕ → Bool
 bitAt bytes r = eqb (getD bytes (r / 8) 0 / 2 ^ (r % 8) % 2) 1
@@ -31,6 +27,10 @@ bitAt bytes r = eqb (getD bytes (r / 8) 0 / 2 ^ (r % 8) % 2) 1
 -- the table's value on row r
 abbrev pub value : Table → ℕ → Bool
 value t r = bitAt (t .bytes) r
+
+-- the function of a table: inputs are false or true, which are levels 0 and 1, and every row is cared for
+abbrev pub functionOf : Table → Function
+functionOf t = record { places = t .n; top = 1; value = value t; cared = λ r. true }
 
 -- the bytes of a table of n inputs
 abbrev pub byteCount : ℕ → ℕ

@@ -7,12 +7,14 @@ ghost use mathlib.Core.Path.{_≡_};
 ghost use Prim.Native.Nat.{_≤_, _<_};
 ghost use lib.IntN.{pos};
 ghost use lib.ListN.{getD};
-ghost use Rattle.table.specs.Gate.{distance, gateTrue, realises, within, placeLimit, inRange, beyond};
+ghost use Rattle.table.specs.Gate.{realises, within, placeLimit, inRange, beyond};
+ghost use Rattle.function.specs.Gate.{distance, gateTrue};
+ghost use Rattle.function.specs.Function.{level};
 
 // Returns the sum of the weights of a row's true inputs, less T. The sum is of 64 bits, so that it cannot wrap.
 pub fn row_distance(weights: [i32; 8], threshold: i32, row: usize) -> i64
     requires { ⌜ row < 256 ⌝ }
-    ensures { λ r. ⌜ r ≡ distance weights threshold row ⌝ }
+    ensures { λ r. ⌜ r ≡ distance weights threshold (level 2 row) ⌝ }
 {
     let mut sum: i64 = 0;
     let mut place: usize = 0;
@@ -28,7 +30,7 @@ pub fn row_distance(weights: [i32; 8], threshold: i32, row: usize) -> i64
 // Whether the gate is true on a row: the sum is at least T.
 pub fn gate_true(gate: Gate, row: usize) -> bool
     requires { ⌜ row < 256 ⌝ }
-    ensures { λ r. ⌜ r ≡ gateTrue (gate .weights) (gate .threshold) row ⌝ }
+    ensures { λ r. ⌜ r ≡ gateTrue (gate .weights) (gate .threshold) (level 2 row) ⌝ }
 {
     let weights = gate.weights;
     row_distance(weights, gate.threshold, row) >= 0

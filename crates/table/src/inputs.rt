@@ -6,7 +6,9 @@ use types::inputs::Place;
 use types::table::Table;
 ghost use mathlib.Core.Path.{_≡_};
 ghost use Prim.Native.Nat.{_≤_, _<_};
-ghost use Rattle.table.specs.Inputs.{turnsAt, firstTurn, found, isRow, kindBy, kindAt, kindsOf};
+ghost use Rattle.table.specs.Inputs.{found, isRow, kindBy, kindAt, kindsOf};
+ghost use Rattle.function.specs.Turns.{turnsAt, firstTurn};
+ghost use Rattle.table.specs.Table.{functionOf};
 
 // The row that a search found.
 pub enum Found {
@@ -17,7 +19,7 @@ pub enum Found {
 // Whether making the place's input true in a row without it turns the value to `to`.
 fn turns_at(table: Table, to: bool, place: usize, row: usize) -> bool
     requires { ⌜ (place < 8) × (row < 256) ⌝ }
-    ensures { λ r. ⌜ r ≡ turnsAt table to place row ⌝ }
+    ensures { λ r. ⌜ r ≡ turnsAt (functionOf table) to place row ⌝ }
 {
     if (row >> place) % 2 == 1 {
         return false;
@@ -32,7 +34,7 @@ fn turns_at(table: Table, to: bool, place: usize, row: usize) -> bool
 // Returns the lowest row in which the place's input turns the value to `to`.
 pub fn first_turn(table: Table, to: bool, place: usize) -> Found
     requires { ⌜ (table .n ≤ 8) × (place < 8) ⌝ }
-    ensures { λ r. ⌜ r ≡ found (firstTurn table to place) ⌝ }
+    ensures { λ r. ⌜ r ≡ found (firstTurn (functionOf table) to place) ⌝ }
 {
     let rows = row_count(table.n);
     let mut row: usize = 0;

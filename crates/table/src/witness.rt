@@ -7,7 +7,10 @@ ghost use mathlib.Core.Path.{_≡_};
 ghost use Prim.Native.Nat.{_≤_, _<_};
 ghost use lib.ListN.{drop};
 ghost use Rattle.numbers.specs.Tests.{allAtMost};
-ghost use Rattle.table.specs.Witness.{inputLevel, sideSum, countOf, balances, sameCounts, unfit};
+ghost use Rattle.table.specs.Witness.{balances, sameCounts, unfit};
+ghost use Rattle.function.specs.Witness.{inputLevel, sideSum, countOf};
+ghost use Rattle.table.specs.Table.{functionOf};
+ghost use Rattle.function.specs.Function.{level};
 
 // A count lies in 0 to this limit.
 pub const COUNT_LIMIT: u32 = 1_000_000;
@@ -15,7 +18,7 @@ pub const COUNT_LIMIT: u32 = 1_000_000;
 // Returns the level of an input in a row: 1 where it is true, else 0. Input 0 is the constant 1.
 fn input_level(row: usize, input: usize) -> u64
     requires { ⌜ (row < 256) × (input ≤ 8) ⌝ }
-    ensures { λ r. ⌜ r ≡ inputLevel row input ⌝ }
+    ensures { λ r. ⌜ r ≡ inputLevel (level 2 row) input ⌝ }
 {
     if input == 0 {
         return 1;
@@ -26,7 +29,7 @@ fn input_level(row: usize, input: usize) -> u64
 // Returns the counts of the rows whose value is `side`, each times the input's level, added up.
 pub fn side_sum(table: Table, side: bool, counts: [u32; 256], input: usize) -> u64
     requires { ⌜ (table .n ≤ 8) × (input ≤ 8) ⌝ }
-    ensures { λ r. ⌜ r ≡ sideSum table side (countOf counts) input ⌝ }
+    ensures { λ r. ⌜ r ≡ sideSum (functionOf table) side (countOf counts) input ⌝ }
 {
     let rows = row_count(table.n);
     let mut sum: u64 = 0;

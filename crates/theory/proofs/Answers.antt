@@ -1,7 +1,7 @@
--- What an ended job shows, from soundness alone: a found job's v is a gate of its table, and the counts of a looped or binate job balance, so
--- that no gate exists. Looped: v = s, so the corrections counted add up to 0 in each component. The last part says it in the checker's
--- words: a sound job keeps the ranges of 7 and 8. Assumes nothing.
-use mathlib.Core.Path.{_≡_, refl, sym, _∙_, ap}
+-- What an ended state shows, from soundness alone: a found state's v is a gate of its function, and the counts of a looped or binate state
+-- balance, so that no gate exists. Looped: v = s, so the corrections counted add up to 0 in each component. Then of a job, on its table. The
+-- last part says it in the checker's words: a sound job keeps the ranges of 7 and 8. Assumes nothing.
+use mathlib.Core.Path.{_≡_, refl, sym, _∙_, ap, subst}
 use mathlib.Core.Logic.{_⊎_, inl, inr, ⊎-elim, _≢_}
 use mathlib.Core.Bool.{Bool, true, false, not}
 use mathlib.Core.List.{List, []}
@@ -16,13 +16,8 @@ use Rattle.numbers.specs.Tests.{allAtMost}
 use Rattle.numbers.proofs.Int.{integers, parts-add, parts-neg}
 use Rattle.numbers.proofs.TestLaws.{not-passed, or-neither, all-at-most-at, all-at-most-from}
 use Rattle.types.specs.declared.table.Table.{Table}
-use Rattle.table.specs.Table.{rows, value}
-use Rattle.table.specs.Gate.{distance, Realises, realises, weightLimit, beyond}
-use Rattle.table.specs.Witness.{sideSum, Balances, countOf, balances, countLimit, unfit}
 use Rattle.table.proofs.GateLaws.{realises-correct}
 use Rattle.table.proofs.WitnessLaws.{balances-correct}
-use Rattle.table.proofs.InputLaws.{side-sum-terms, side-terms-le}
-use Rattle.table.proofs.Summability.{no-gate}
 use Rattle.cell.specs.Refusal.{Rule, answered, NoneBroken, none, also}
 use Rattle.cell.specs.Calls.{tableRules, checkGateRules, checkGate, checkWitnessRules, checkWitness}
 use Rattle.cell.proofs.RefusalLaws.{none-broken-answered}
@@ -30,17 +25,30 @@ use Rattle.types.specs.declared.vector.Vector.{Vector}
 use Rattle.job.specs.declared.job.Job.{Job}
 use Rattle.types.specs.declared.stage.Stage.{Stage}
 use Rattle.types.specs.declared.stage.Stage.the-variants.{Found, Looped, Binate}
-use Rattle.machine.specs.Failing.{margin, fails}
 use Rattle.machine.specs.Power.{highest}
-use Rattle.machine.specs.Vector.{component}
 use Rattle.job.specs.Sound.{markFor, Sound}
 use Rattle.job.specs.Calls.{gateOf, witnessOf}
 use Rattle.machine.proofs.HighestLaws.{highest-le}
-use Rattle.machine.proofs.FailingLaws.{failing-none}
 use Rattle.machine.proofs.RangeLaws.{in-range-correct, in-range-wider}
-use Rattle.state.proofs.SoundBounds.{side-sum-term}
 use Rattle.job.proofs.SoundLaws.{sound-in, sound-current, sound-count, sound-past}
-use Rattle.theory.proofs.Binate.{binate-sums}
+use Rattle.types.specs.declared.state.State.{State}
+use Rattle.table.specs.Table.{value, functionOf}
+use Rattle.table.specs.Gate.{realises, weightLimit, beyond}
+use Rattle.table.specs.Witness.{balances, countLimit, unfit}
+use Rattle.table.proofs.TableLaws.{rows-le}
+use Rattle.table.proofs.InputLaws.{side-terms-le}
+use Rattle.function.specs.Function.{Function, levels, rows}
+use Rattle.function.specs.Gate.{distance, Realises}
+use Rattle.function.specs.Witness.{sideSum, Balances, countOf}
+use Rattle.function.specs.Failing.{margin}
+use Rattle.function.specs.Vector.{component}
+use Rattle.function.specs.Binate.{binateCounts}
+use Rattle.function.proofs.WitnessLaws.{side-sum-terms, side-sum-term}
+use Rattle.function.proofs.Summability.{no-gate}
+use Rattle.function.proofs.FailingLaws.{failing-none, passes-margin}
+use Rattle.function.proofs.BinateLaws.{binate-sums, binate-counts-balance}
+use Rattle.state.specs.Sound as state
+use Rattle.state.proofs.SoundBounds as bounds
 
 -- ---- found
 
@@ -49,65 +57,76 @@ margin-agrees : (y : Bool) (d : ℤ) → ltZ (margin y d) (pos 1) ≡ false → 
 margin-agrees true d e = omega integers
 margin-agrees false d e = omega (integers, parts-neg d)
 
--- a found job's weights and threshold realise its table
-pub found-realises : (j : Job) → Sound j → j .stage ≡ Found → Realises (j .v .a) (j .v .b) (j .table)
-unfolding fails
-found-realises j s e r h =
-    margin-agrees (value (j .table) r) (distance (j .v .a) (j .v .b) r) (failing-none (j .table) (j .v) (sound-in Found j s e .2) r h)
-
--- ---- looped
-
 same-added : (c d : ℤ) (x y : ℕ) → c ≡ d → c +ℤ pos x ≡ d +ℤ pos y → x ≡ y
 same-added c d x y same e = omega (integers, parts-add c (pos x), parts-add d (pos y))
 
--- a looped job's counts balance
-pub looped-balances : (j : Job) → Sound j → j .stage ≡ Looped → Balances (j .table) (countOf (j .counts))
-looped-balances j s e = record { total = equal 0 (omega arith); above = above; inputs = λ i l h. equal i h }
-  where
-    side : Bool → ℕ → ℕ
-    side y = sideSum (j .table) y (countOf (j .counts))
+-- the stages of an end without a gate
+abbrev pub WithoutGate : Stage → Type 0
+WithoutGate stage = (stage ≡ Looped) ⊎ (stage ≡ Binate)
 
-    equal : (i : ℕ) → i ≤ j .table .n → side true i ≡ side false i
-    equal i h =
-        let (traced, unate, two, back) = sound-in Looped j s e in
-        sym (same-added (component (j .v) i) (component (j .s) i) (side false i) (side true i) (ap (λ (u : Vector). component u i) back) (traced .sum i h))
+module _ {f : Function} {x : State} (s : state.Sound f x) where
+  -- a found state's weights and threshold realise its function
+  pub state-realises : x .stage ≡ Found → Realises (x .v .a) (x .v .b) f
+  state-realises e r h care =
+      margin-agrees (f .value r) (distance (x .v .a) (x .v .b) (levels f r))
+      (passes-margin f (x .v) r care (failing-none f (x .v) (bounds.sound-in s Found e .2) r h))
 
-    above : 0 < side true 0
-    above =
-        let (traced, unate, two, back) = sound-in Looped j s e in
-        let mark : j .mark ≡ highest (j .k - 1) = s .mark ∙ ap (λ (x : Stage). markFor x (j .k)) e in
-        omega (arith, equal 0 (omega arith), traced .total, highest-le (j .k - 1) (omega (arith, s .capped)))
+  -- ---- looped
 
--- ---- binate
+  side : Bool → ℕ → ℕ
+  side y = sideSum f y (countOf (x .counts))
 
--- both sides of a binate job's counts have the same sums, of total 2
-binate-job-sums : (j : Job) → j .table .n ≤ 8 → Sound j → j .stage ≡ Binate
-    → (sum : ℕ → ℕ) × (sum 0 ≡ 2) × ((side : Bool) (i : ℕ) → sideSum (j .table) side (countOf (j .counts)) i ≡ sum i)
-binate-job-sums j n s e = let (place, is, counts) = sound-in Binate j s e .3 in rw counts (binate-sums (j .table) place n is)
+  equal : x .stage ≡ Looped → (i : ℕ) → i ≤ f .places → side true i ≡ side false i
+  unfolding side
+  equal e i h =
+      let (traced, unate, two, back) = bounds.sound-in s Looped e in
+      sym (same-added (component (x .v) i) (component (x .s) i) (side false i) (side true i) (ap (λ (u : Vector). component u i) back) (traced .sum i h))
 
--- a binate job's counts balance
-pub binate-balances : (j : Job) → j .table .n ≤ 8 → Sound j → j .stage ≡ Binate → Balances (j .table) (countOf (j .counts))
-binate-balances j n s e =
-    let (sum, two, sums) = binate-job-sums j n s e in
-    record {
-      total = sums true 0 ∙ sym (sums false 0);
-      above = omega (arith, sums true 0);
-      inputs = λ i l h. sums true i ∙ sym (sums false i);
-    }
+  above : x .stage ≡ Looped → 0 < side true 0
+  unfolding side
+  above e =
+      let (traced, unate, two, back) = bounds.sound-in s Looped e in
+      let mark : x .mark ≡ highest (x .k - 1) = s .mark ∙ ap (λ (y : Stage). markFor y (x .k)) e in
+      omega (arith, equal e 0 (omega arith), traced .total, highest-le (x .k - 1) (omega (arith, s .capped)))
 
--- ---- no gate exists
+  -- a looped state's counts balance
+  looped-balances : x .stage ≡ Looped → Balances f (countOf (x .counts))
+  unfolding side
+  looped-balances e = record { total = equal e 0 (omega arith); above = above e; inputs = λ i l h. equal e i h; cared = s .cared }
+
+  -- a binate state's counts balance
+  binate-balances : rows f ≤ 256 → x .stage ≡ Binate → Balances f (countOf (x .counts))
+  binate-balances few e =
+      let (place, is, counts) = bounds.sound-in s Binate e .3 in
+      subst (λ (l : List ℕ). Balances f (countOf l)) (sym counts) (binate-counts-balance f place few is)
+
+  -- ---- no gate exists
+
+  -- the counts of a state that has ended without a gate balance
+  pub state-balances : rows f ≤ 256 → WithoutGate (x .stage) → Balances f (countOf (x .counts))
+  state-balances few = ⊎-elim looped-balances (binate-balances few)
+
+  -- so no integer weights and threshold, of any size, realise its function
+  pub state-excludes : rows f ≤ 256 → WithoutGate (x .stage) → (ws : List ℤ) (th : ℤ) → ¬ Realises ws th f
+  state-excludes few e = no-gate f (countOf (x .counts)) (state-balances few e)
+
+-- ---- of a job
+
+-- a found job's weights and threshold realise its table
+pub found-realises : (j : Job) → Sound j → j .stage ≡ Found → Realises (j .v .a) (j .v .b) (functionOf (j .table))
+found-realises j s e = state-realises s e
 
 -- a job has ended without a gate
 abbrev pub EndedWithout : Job → Type 0
-EndedWithout j = (j .stage ≡ Looped) ⊎ (j .stage ≡ Binate)
+EndedWithout j = WithoutGate (j .stage)
 
 -- its counts balance
-pub ended-balances : (j : Job) → j .table .n ≤ 8 → Sound j → EndedWithout j → Balances (j .table) (countOf (j .counts))
-ended-balances j n s = ⊎-elim (looped-balances j s) (binate-balances j n s)
+pub ended-balances : (j : Job) → j .table .n ≤ 8 → Sound j → EndedWithout j → Balances (functionOf (j .table)) (countOf (j .counts))
+ended-balances j n s = state-balances s (rows-le n)
 
 -- so no integer weights and threshold, of any size, realise its table
-pub ended-excludes : (j : Job) → j .table .n ≤ 8 → Sound j → EndedWithout j → (ws : List ℤ) (th : ℤ) → ¬ Realises ws th (j .table)
-ended-excludes j n s e = no-gate (j .table) (countOf (j .counts)) (ended-balances j n s e)
+pub ended-excludes : (j : Job) → j .table .n ≤ 8 → Sound j → EndedWithout j → (ws : List ℤ) (th : ℤ) → ¬ Realises ws th (functionOf (j .table))
+ended-excludes j n s = state-excludes s (rows-le n)
 
 -- ---- in the checker's words
 
@@ -133,18 +152,21 @@ count-in-range j n s (inl e) r = omega (arith, s .capped, sound-count j s (λ b.
   where
     apart : Looped ≢ Binate
     apart b = let z : _≡_ {A = ℕ} 0 1 = cc in omega arith
-count-in-range j n s (inr e) r = by (decLe (rows (j .table)) r)
+count-in-range j n s (inr e) r = by (decLe (rows (functionOf (j .table))) r)
   where
-    by : Dec (rows (j .table) ≤ r) → countOf (j .counts) r ≤ countLimit
+    by : Dec (rows (functionOf (j .table)) ≤ r) → countOf (j .counts) r ≤ countLimit
     by (yes h) = omega (arith, sound-past j s r h)
     by (no h) =
-        let (sum, two, sums) = binate-job-sums j n s e in
-        omega (arith, sums (value (j .table) r) 0, side-sum-term (j .table) (countOf (j .counts)) 0 r (omega arith))
+        let (place, is, counts) = sound-in Binate j s e .3 in
+        let (sum, two, sums) = binate-sums (functionOf (j .table)) place (rows-le n) is in
+        let count = ap (λ (l : List ℕ). countOf l r) counts in
+        let term = side-sum-term (functionOf (j .table)) (countOf (binateCounts (functionOf (j .table)) place)) 0 r (omega arith) in
+        omega (arith, count, sums (value (j .table) r) 0, term)
 
 -- counts that balance are not all 0, since their total is above 0
-balances-some : (t : Table) (counts : List ℕ) → Balances t (countOf counts) → allAtMost 0 counts ≡ false
+balances-some : (t : Table) (counts : List ℕ) → Balances (functionOf t) (countOf counts) → allAtMost 0 counts ≡ false
 balances-some t counts b = not-passed (allAtMost 0 counts) (λ e.
-    omega (arith, b .above, side-sum-terms t true (countOf counts) 0, side-terms-le t true (countOf counts) 0 0 (all-at-most-at 0 counts e) (rows t)))
+    omega (arith, b .above, side-sum-terms (functionOf t) true (countOf counts) 0, side-terms-le t true (countOf counts) 0 0 (all-at-most-at 0 counts e) (rows (functionOf t))))
 
 -- so the job's witness keeps the range of 8
 witness-in-range : (j : Job) → j .table .n ≤ 8 → Sound j → EndedWithout j → unfit (j .table) (witnessOf j) ≡ false

@@ -2,17 +2,18 @@
 use mathlib.Core.Path.{refl}
 use lib.Count.{leadingZeros}
 use Rattle.table.specs.Table.{bitAt, spareSet}
-use Rattle.table.specs.Gate.{distance, inRange}
+use Rattle.table.specs.Gate.{inRange}
+use Rattle.function.specs.Gate.{distance}
 use Rattle.table.specs.Witness.{balances, unfit}
-use Rattle.table.specs.Inputs.{firstTurn}
+use Rattle.function.specs.Turns.{firstTurn}
 use Rattle.table.specs.Chow.{chowOf}
-use Rattle.machine.specs.Failing.{fails, failing}
-use Rattle.machine.specs.Vector.{addLevels, correctedBy, sameList, sameVector}
+use Rattle.function.specs.Failing.{fails, failing}
+use Rattle.function.specs.Vector.{addLevels, correctedBy, sameList, sameVector}
 use Rattle.state.specs.Machine.{corrected, marked, settled, closed, stepIn}
 use Rattle.state.specs.Machine as state
 use Rattle.job.specs.Machine.{run, fresh}
 use Rattle.machine.specs.Power.{highest}
-use Rattle.machine.specs.Binate.{binateAt, binatePlace, binateCounts}
+use Rattle.function.specs.Binate.{binateAt, binatePlace, binateCounts}
 use Rattle.state.specs.Sound.{isTraced, soundIn, isSound}
 use Rattle.theory.specs.Cases.{MarkedCases}
 

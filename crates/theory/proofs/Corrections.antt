@@ -15,9 +15,8 @@ use Rattle.numbers.proofs.Int.{integers}
 use Rattle.numbers.proofs.Ring.{ring, *ℤ-negl, *ℤ-negr, *ℤ-idl, *ℤ-minusl}
 use Rattle.numbers.proofs.SumLaws.{sumZ-ext, sumZ-pos, sum-below-zero, sum-below-suc, sum-below-most, weighted-sum-nil, weighted-sum-cons}
 use Rattle.types.specs.declared.vector.Vector.{Vector}
-use Rattle.machine.specs.Vector.{sign}
-use Rattle.machine.specs.Failing.{margin}
-use Rattle.machine.specs.Vector.{component}
+use Rattle.function.specs.Vector.{sign, component}
+use Rattle.function.specs.Failing.{margin}
 use Rattle.theory.specs.Bound.{square, sumSquares, squares}
 use Rattle.theory.proofs.Perceptron.{dot, dot-front, dot-comm, dot-zero, dot-mul}
 

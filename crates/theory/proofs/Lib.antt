@@ -2,7 +2,6 @@ pub mod Perceptron
 pub mod Corrections
 pub mod MachineWalk
 pub mod Bound
-pub mod Binate
 pub mod Answers
 pub mod Completeness
 pub mod Cases

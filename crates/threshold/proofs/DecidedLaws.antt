@@ -50,6 +50,7 @@ module _ (t : Table) (kept : NoneBroken (tableRules t [])) where
 grown : (room : ℕ) (before after : Job) → before .k ≡ 0 → withMade (after .k) (outcomeWritten room after) ≡ handedBack room before after
 grown room before after e = ap (λ (made : ℕ). withMade made (outcomeWritten room after)) (omega arith)
 
+-- so K of the job of a table is what is handed back with it
 pub decided-handed : (t : Table) (room : ℕ) {j : Job} → j ≡ run callBudget (fresh t)
     → withMade (j .k) (outcomeWritten room j) ≡ handedBack room (fresh t) (run callBudget (fresh t))
 decided-handed t room e = ap (λ (j : Job). withMade (j .k) (outcomeWritten room j)) e ∙ grown room (fresh t) (run callBudget (fresh t)) (fresh-k t)

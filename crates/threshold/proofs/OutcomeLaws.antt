@@ -24,9 +24,9 @@ use Rattle.codec.specs.RowList.{rowListBytes}
 use Rattle.codec.proofs.NumberLaws.{number-length}
 use Rattle.theory.proofs.Answers.{EndedWithout, found-accepted, ended-accepted}
 use Rattle.records.specs.Record.{ofGate, ofWitness, ofJob, gateVector, recordBytes}
-use Rattle.records.specs.Calls.{hasEnded, tooShort, isEnd, writeRecord}
-use Rattle.records.proofs.WriteLaws.{head-most, vector-most, rows-most}
-use Rattle.records.proofs.JobBytes.{job-parts, job-count}
+use Rattle.writers.specs.Calls.{hasEnded, tooShort, isEnd, writeRecord}
+use Rattle.writers.proofs.WriteLaws.{head-most, vector-most, rows-most}
+use Rattle.writers.proofs.JobBytes.{job-parts, job-count}
 use Rattle.threshold.specs.Result.{fitted}
 use Rattle.threshold.specs.Interface.{outcomeIn, outcome, outcomeWritten}
 

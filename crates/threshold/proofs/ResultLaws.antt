@@ -13,9 +13,9 @@ use Rattle.cell.proofs.RefusalLaws.{rule-broken, rule-kept}
 use Rattle.codec.specs.Field.{writtenAt}
 use Rattle.cell.specs.declared.refusal.Answer.{Answer}
 use Rattle.cell.specs.Answers.{answer}
-use Rattle.records.specs.declared.write.Written.{Written}
-use Rattle.records.specs.declared.write.Written.the-variants as Written′
-use Rattle.records.specs.Calls.{written, lent}
+use Rattle.writers.specs.declared.write.Written.{Written}
+use Rattle.writers.specs.declared.write.Written.the-variants as Written′
+use Rattle.writers.specs.Calls.{written, lent}
 use Rattle.threshold.specs.Result.{asResult, said, measured, fitted, Handed, withMade, bytesOf, madeAfter, answerOf}
 
 -- ---- a call that writes
@@ -72,21 +72,21 @@ fitted-length room bytes {n} = by (ltb room (length bytes))
 -- ---- a call that hands back the corrections made too
 
 -- the contract: the number returned, and the buffer and the lent number before and after the call
-abbrev pub HandedBack : Answered Handed → List ℕ → ℕ → ℤ → List ℕ → ℕ → Type 0
-HandedBack a old held r new made = (r ≡ asResult (measured (bytesOf a))) × (new ≡ lent old (bytesOf a)) × (made ≡ madeAfter held a)
+abbrev pub HandedOver : Answered Handed → List ℕ → ℕ → ℤ → List ℕ → ℕ → Type 0
+HandedOver a old held r new made = (r ≡ asResult (measured (bytesOf a))) × (new ≡ lent old (bytesOf a)) × (made ≡ madeAfter held a)
 
-pub handed-as : {a b : Answered Handed} (old : List ℕ) (held : ℕ) → a ≡ b → {r : ℤ} {new : List ℕ} {made : ℕ} → HandedBack a old held r new made
-    → HandedBack b old held r new made
-handed-as old held same {r} {new} {made} p = subst (λ (x : Answered Handed). HandedBack x old held r new made) same p
+pub handed-as : {a b : Answered Handed} (old : List ℕ) (held : ℕ) → a ≡ b → {r : ℤ} {new : List ℕ} {made : ℕ} → HandedOver a old held r new made
+    → HandedOver b old held r new made
+handed-as old held same {r} {new} {made} p = subst (λ (x : Answered Handed). HandedOver x old held r new made) same p
 
 -- a refusal leaves both as they were
 pub handed-refused : {a : Answered Handed} (old : List ℕ) (held : ℕ) {n : ℕ} {r : ℤ} → refused n ≡ a → r ≡ asResult (refused n)
-    → HandedBack a old held r old held
+    → HandedOver a old held r old held
 handed-refused old held e q = handed-as old held e (q, refl, refl)
 
 -- bytes with the corrections made beside them
 pub handed-with : (a : Answered (List ℕ)) (made : ℕ) (old : List ℕ) (held : ℕ) {r : ℤ} {new : List ℕ} {after : ℕ} → Returned a old r new
-    → after ≡ madeAfter held (withMade made a) → HandedBack (withMade made a) old held r new after
+    → after ≡ madeAfter held (withMade made a) → HandedOver (withMade made a) old held r new after
 handed-with (answered bytes) made old held p e = (p .0, p .1, e)
 handed-with (refused n) made old held p e = (p .0, p .1, e)
 

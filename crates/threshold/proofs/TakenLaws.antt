@@ -18,8 +18,9 @@ use Rattle.records.specs.declared.read.Kind.{Kind}
 use Rattle.records.specs.declared.read.Kind.the-variants as Kind′
 use Rattle.records.specs.declared.read.Read.{Read}
 use Rattle.records.specs.Record.{Record, ofTable, ofGate, ofWitness, ofJob, recordBytes, readRecord}
-use Rattle.records.specs.Calls.{tooShort, recordRules, asRead}
-use Rattle.records.proofs.WriteBack.{write-back}
+use Rattle.records.specs.Calls.{asRead}
+use Rattle.writers.specs.Calls.{tooShort, recordRules}
+use Rattle.writers.proofs.WriteBack.{write-back}
 use Rattle.records.proofs.read.Kind.{the-type}
 use Rattle.threshold.specs.Result.{andThen, numberFor}
 use Rattle.threshold.specs.Interface.{tableIn, jobIn, tableRead, jobRead, checkIn, valueIn}

@@ -10,7 +10,7 @@ use Rattle.cell.specs.declared.refusal.Answer.{Answer}
 use Rattle.cell.specs.declared.refusal.Answer.the-variants as Answer′
 use Rattle.records.specs.declared.read.Kind.{Kind}
 use Rattle.records.specs.declared.read.Kind.the-variants as Kind′
-use Rattle.records.specs.Calls.{tooShort}
+use Rattle.writers.specs.Calls.{tooShort}
 
 -- what comes after an answer; a refusal stands as it is
 abbrev pub andThen : {A B : Type 0} → Answered A → (A → Answered B) → Answered B

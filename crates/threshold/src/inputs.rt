@@ -6,7 +6,7 @@ use writing::length::signed_code;
 ghost use mathlib.Core.Path.{_≡_};
 ghost use Prim.Native.Nat.{_<_};
 ghost use lib.ListN.{length, getD};
-ghost use Rattle.records.specs.Calls.{lent};
+ghost use Rattle.writers.specs.Calls.{lent};
 ghost use Rattle.threshold.specs.Result.{asResult, measured, fitted};
 ghost use Rattle.threshold.specs.Inputs.{kindByte, kindBytes, word, chowBytes};
 

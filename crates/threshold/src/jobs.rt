@@ -6,26 +6,11 @@ use cell::refusal::Status;
 use job::job::Job;
 use records::read::Kind;
 use records::reader::read;
-use types::table::Table;
 ghost use mathlib.Core.Path.{_≡_};
-ghost use mathlib.Core.List.{[]};
 ghost use lib.ListN.{length};
-ghost use Rattle.cell.specs.Refusal.{NoneBroken};
-ghost use Rattle.cell.specs.Calls.{tableRules};
-ghost use Rattle.job.specs.Machine.{run, fresh};
-ghost use Rattle.job.specs.Calls.{callBudget};
-ghost use Rattle.records.specs.Calls.{lent};
+ghost use Rattle.writers.specs.Calls.{lent};
 ghost use Rattle.threshold.specs.Result.{asResult, measured, bytesOf, madeAfter};
 ghost use Rattle.threshold.specs.Interface.{decide, carriedOn};
-
-// Returns the job of a table after one carry-on of 100,000.
-fn decided_job(table: Table) -> Job
-    requires { ⌜ NoneBroken (tableRules table []) ⌝ }
-    ensures { λ r. ⌜ r ≡ run callBudget (fresh table) ⌝ }
-{
-    let decided = Job::decided(table);
-    decided.job
-}
 
 // Decides the table of a kind 1 record: writes its gate (kind 2), its witness (kind 3), or the job that is open after 100,000 corrections
 // (kind 4), and sets `made` to the corrections made. Returns the length. Refusals: 1 to 9 as the record is read, 100 for another kind, 12.
@@ -40,8 +25,8 @@ pub extern "C" fn threshold_decide(bytes: &[u8], out: &mut [u8], made: &mut u32)
     let Kind::Table = kind else {
         return not_taken(kind);
     };
-    let job = decided_job(given.table);
-    put_outcome(job, job.k, out, made)
+    let decided = Job::decided(given.table);
+    put_outcome(decided.job, decided.job.k, out, made)
 }
 
 // Carries the open job of a kind 4 record on by a budget; writes what it has come to and sets `made`, as `threshold_decide` does. Returns the

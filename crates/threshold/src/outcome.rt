@@ -1,19 +1,19 @@
 // What a job has come to, written as a record.
 use crate::result::refusal;
 use job::job::Job;
-use records::write::Written;
-use records::write::save;
-use records::write::write_gate;
-use records::write::write_witness;
 use types::gate::Gate;
 use types::stage::Stage;
 use types::witness::Witness;
+use writers::write::Written;
+use writers::write::save;
+use writers::write::write_gate;
+use writers::write::write_witness;
 ghost use mathlib.Core.Path.{_≡_};
 ghost use mathlib.Core.List.{[]};
 ghost use lib.ListN.{length};
 ghost use Rattle.cell.specs.Refusal.{NoneBroken};
 ghost use Rattle.job.specs.Calls.{jobRules, gateOf, witnessOf};
-ghost use Rattle.records.specs.Calls.{written, lent};
+ghost use Rattle.writers.specs.Calls.{written, lent};
 ghost use Rattle.threshold.specs.Result.{asResult, measured, withMade, bytesOf, madeAfter};
 ghost use Rattle.threshold.specs.Interface.{outcomeWritten};
 

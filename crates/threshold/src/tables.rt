@@ -12,7 +12,7 @@ ghost use mathlib.Core.List.{[]};
 ghost use lib.ListN.{length};
 ghost use Rattle.cell.specs.Refusal.{NoneBroken};
 ghost use Rattle.cell.specs.Calls.{tableRules};
-ghost use Rattle.records.specs.Calls.{lent};
+ghost use Rattle.writers.specs.Calls.{lent};
 ghost use Rattle.threshold.specs.Result.{asResult, measured, andThen};
 ghost use Rattle.threshold.specs.Interface.{tableRead, askedOf, kinds, chow};
 

@@ -16,22 +16,23 @@ use Rattle.numbers.proofs.Int.{up, dn, parts-neg}
 use Rattle.numbers.proofs.Widths.{fits-size}
 use Rattle.numbers.proofs.TestLaws.{not-passed}
 use Rattle.types.specs.declared.table.Table.{Table}
-use Rattle.table.specs.Table.{rows}
-use Rattle.table.specs.Witness.{sideSum, countOf}
+use Rattle.table.specs.Table.{rows, functionOf}
+use Rattle.function.specs.Witness.{sideSum, countOf}
 use Rattle.table.proofs.TableLaws.{rows-le}
-use Rattle.table.proofs.InputLaws.{side-sum-terms, side-terms-le}
+use Rattle.table.proofs.InputLaws.{side-terms-le}
+use Rattle.function.proofs.WitnessLaws.{side-sum-terms}
 use Rattle.types.specs.declared.vector.Vector.{Vector}
-use Rattle.machine.specs.Vector.{sameZ, component}
-use Rattle.machine.proofs.VectorLaws.{same-z-correct}
+use Rattle.function.specs.Vector.{sameZ, component}
+use Rattle.function.proofs.VectorLaws.{same-z-correct}
 
 -- the sum of a side of counts below 2^32, of which there are at most 256, is below 2^40
 pub side-sum-lt : (t : Table) (side : Bool) (counts : List ℕ) (i : ℕ) → t .n ≤ 8 → ((r : ℕ) → countOf counts r ≤ 4294967295)
-    → sideSum t side (countOf counts) i < 2 ^ 40
+    → sideSum (functionOf t) side (countOf counts) i < 2 ^ 40
 side-sum-lt t side counts i h small =
     omega (
       arith,
       rows-le h,
-      side-sum-terms t side (countOf counts) i,
+      side-sum-terms (functionOf t) side (countOf counts) i,
       side-terms-le t side (countOf counts) i 4294967295 small (rows t),
     )
 

@@ -11,9 +11,10 @@ ghost use lib.ListN.{length, getD};
 ghost use lib.IntN.{pos, _+ℤ_};
 ghost use Rattle.numbers.specs.Tests.{sameBool, allBelow};
 ghost use Rattle.numbers.specs.Tabulate.{tabulate};
-ghost use Rattle.table.specs.Table.{value};
-ghost use Rattle.table.specs.Witness.{inputLevel, onlyIf, sideSum, countOf};
-ghost use Rattle.machine.specs.Vector.{sameZ, component};
+ghost use Rattle.table.specs.Table.{value, functionOf};
+ghost use Rattle.function.specs.Witness.{inputLevel, onlyIf, sideSum, countOf};
+ghost use Rattle.function.specs.Vector.{sameZ, component};
+ghost use Rattle.function.specs.Function.{level};
 
 // Returns the component of a vector that a correction changes by the level of the input: input 0 is the negation of b.
 fn component(v: Vector, input: usize) -> i64
@@ -37,7 +38,7 @@ fn traced_at(v: Vector, s: Vector, input: usize, added: u64, taken: u64) -> bool
 // Adds a row's count to the sum of input 0, and to that of each input that is true in the row.
 fn add_levels(sums: &mut [u64; 9], row: usize, count: u64)
     requires { ⌜ (row < 256) × (count < 2 ^ 32) × (length (now sums) ≡ 9) × ((i : ℕ) → i < 9 → getD (now sums) i 0 < 2 ^ 40) ⌝ }
-    ensures { λ _. ⌜ now (sums .exit) ≡ tabulate 9 (λ i. getD (now (sums .entry)) i 0 + count * inputLevel row i) ⌝ }
+    ensures { λ _. ⌜ now (sums .exit) ≡ tabulate 9 (λ i. getD (now (sums .entry)) i 0 + count * inputLevel (level 2 row) i) ⌝ }
 {
     // bit i is the level of input i
     let levels = 2 * row + 1;
@@ -51,7 +52,7 @@ fn add_levels(sums: &mut [u64; 9], row: usize, count: u64)
 // Adds to the sums of a side what a row of this count adds.
 fn add_row(sums: &mut [u64; 9], table: Table, side: bool, row: usize, count: u32)
     requires { ⌜ (row < 256) × (length (now sums) ≡ 9) × ((i : ℕ) → i < 9 → getD (now sums) i 0 < 2 ^ 40) ⌝ }
-    ensures { λ _. ⌜ now (sums .exit) ≡ tabulate 9 (λ i. getD (now (sums .entry)) i 0 + onlyIf (sameBool (value table row) side) (count * inputLevel row i)) ⌝ }
+    ensures { λ _. ⌜ now (sums .exit) ≡ tabulate 9 (λ i. getD (now (sums .entry)) i 0 + onlyIf (sameBool (value table row) side) (count * inputLevel (level 2 row) i)) ⌝ }
 {
     if count == 0 {
         return;
@@ -65,7 +66,7 @@ fn add_row(sums: &mut [u64; 9], table: Table, side: bool, row: usize, count: u32
 // Returns the sums of a side: for each input the counts of the rows whose value is `side`, each times the input's level.
 fn side_sums(table: Table, side: bool, counts: [u32; 256]) -> [u64; 9]
     requires { ⌜ table .n ≤ 8 ⌝ }
-    ensures { λ r. ⌜ r ≡ tabulate 9 (sideSum table side (countOf counts)) ⌝ }
+    ensures { λ r. ⌜ r ≡ tabulate 9 (sideSum (functionOf table) side (countOf counts)) ⌝ }
 {
     let rows = row_count(table.n);
     let mut sums = [0u64; 9];
@@ -80,8 +81,8 @@ fn side_sums(table: Table, side: bool, counts: [u32; 256]) -> [u64; 9]
 // Whether the counts add up to K − M, and v is s with each row's correction times its count.
 pub fn is_traced(table: Table, counts: [u32; 256], v: Vector, s: Vector, mark: u32, k: u32) -> bool
     requires { ⌜ table .n ≤ 8 ⌝ }
-    ensures { λ r. ⌜ r ≡ (eqb (sideSum table true (countOf counts) 0 + sideSum table false (countOf counts) 0 + mark) k
-        && allBelow (suc (table .n)) (λ i. sameZ (component v i +ℤ pos (sideSum table false (countOf counts) i)) (component s i +ℤ pos (sideSum table true (countOf counts) i)))) ⌝ }
+    ensures { λ r. ⌜ r ≡ (eqb (sideSum (functionOf table) true (countOf counts) 0 + sideSum (functionOf table) false (countOf counts) 0 + mark) k
+        && allBelow (suc (table .n)) (λ i. sameZ (component v i +ℤ pos (sideSum (functionOf table) false (countOf counts) i)) (component s i +ℤ pos (sideSum (functionOf table) true (countOf counts) i)))) ⌝ }
 {
     let added = side_sums(table, true, counts);
     let taken = side_sums(table, false, counts);

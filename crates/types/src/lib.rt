@@ -1,5 +1,5 @@
-// What callers make and take apart: tables, gates, witnesses, kinds of inputs, vectors, states of the machine. Types alone: any content may stand in them,
-// and the calls that take them look.
+// What callers make and take apart: tables, gates, witnesses, kinds of inputs, vectors, states of the machine. Types alone: any content may
+// stand in them, and the calls that take them look.
 pub mod gate;
 pub mod inputs;
 pub mod stage;

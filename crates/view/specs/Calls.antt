@@ -5,18 +5,19 @@ use mathlib.Core.List.{[], _∷_}
 use Prim.Native.Nat.{ℕ}
 use Rattle.cell.specs.Refusal.{Answered, answered, refused, checked}
 use Rattle.cell.specs.Calls.{pastRows}
-use Rattle.machine.specs.Failing.{fails}
+use Rattle.function.specs.Failing.{fails}
 use Rattle.job.specs.declared.job.Job.{Job}
 use Rattle.types.specs.declared.stage.Stage.{Stage}
 use Rattle.types.specs.declared.stage.Stage.the-variants.{Open, Found, Looped, Binate}
 use Rattle.job.specs.Calls.{jobRules, gateOf, witnessOf, noGate, noWitness}
 use Rattle.view.specs.declared.shown.Verdict.the-variants as Verdict′
 use Rattle.view.specs.declared.shown.Shown.{Shown}
+use Rattle.table.specs.Table.{functionOf}
 
 -- ---- whether a row fails in a job: 2, 3, 9, 14
 
 abbrev pub rowFails : Job → ℕ → Answered Bool
-rowFails j r = checked (jobRules j (pastRows (j .table .n) r ∷ [])) (answered (fails (j .table) (j .v) r))
+rowFails j r = checked (jobRules j (pastRows (j .table .n) r ∷ [])) (answered (fails (functionOf (j .table)) (j .v) r))
 
 -- ---- what a job shows: 2, 3, 9
 

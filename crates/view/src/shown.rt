@@ -15,9 +15,10 @@ use types::witness::Witness;
 ghost use mathlib.Core.Path.{_≡_};
 ghost use Prim.Native.Nat.{_<_};
 ghost use Rattle.cell.specs.Answers.{answer};
-ghost use Rattle.machine.specs.Failing.{fails};
+ghost use Rattle.function.specs.Failing.{fails};
 ghost use Rattle.job.specs.Calls.{noGate, noWitness};
 ghost use Rattle.view.specs.Calls.{rowFails, shownIn, showJob, shown};
+ghost use Rattle.table.specs.Table.{functionOf};
 
 // The three verdicts: a gate, a witness after which no gate exists, or given up so far; or the number of a refusal.
 pub enum Verdict {
@@ -37,7 +38,7 @@ pub struct Shown {
 // Whether a row fails by the vector.
 fn fails_at(table: Table, v: Vector, row: usize) -> bool
     requires { ⌜ row < 256 ⌝ }
-    ensures { λ r. ⌜ r ≡ fails table v row ⌝ }
+    ensures { λ r. ⌜ r ≡ fails (functionOf table) v row ⌝ }
 {
     let a = v.a;
     let distance = row_distance(a, v.b, row);

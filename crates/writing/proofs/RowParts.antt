@@ -7,7 +7,7 @@ use native.Mathlib.Nat.{zero-add}
 use native.Mathlib.Numerals.{add-one}
 use native.Mathlib.Omega.{arith}
 use lib.ListN.{length, length-append}
-use Rattle.table.specs.Witness.{countOf}
+use Rattle.function.specs.Witness.{countOf}
 use Rattle.codec.specs.RowList.{pairBytes, pairsFrom}
 use Rattle.codec.proofs.NumberLaws.{number-length}
 use Rattle.codec.proofs.PairLaws.{pairs-zero, pairs-snoc}

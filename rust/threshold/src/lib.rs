@@ -16,7 +16,7 @@
 //! # Ok::<(), threshold::Refusal>(())
 //! ```
 //!
-//! Each value here is a record (document 01, "Records") that the library has read, so it can be stored as [`Table::record`] and its
+//! Each value here is a record (document 01, "Records") that the library has read or written, so it can be stored as [`Table::record`] and its
 //! like give it. What is proved is the library; this crate adds the declarations and the numbers of a record as Rust values.
 //! [`calls`] has the library's functions on slices.
 

@@ -60,7 +60,7 @@ impl fmt::Display for Refusal {
             Refusal::EndsEarly => "the bytes end early",
             Refusal::Inputs => "more than eight inputs, or a gate's inputs are not the table's",
             Refusal::SpareBit => "a spare bit of the table is set",
-            Refusal::Number => "a number is not in shortest form",
+            Refusal::Number => "a number is not in shortest form, or has over three groups",
             Refusal::Kind => "the kind byte is not 1 to 4",
             Refusal::BytesLeft => "bytes are left after the record",
             Refusal::Gate => "a weight or the threshold is out of range",

@@ -3,7 +3,7 @@ use mathlib.Core.Path.{_≡_}
 use lib.ListN.{length}
 use borrow.Author.Needs.{needs}
 use Rattle.records.specs.Record.{ofJob}
-use Rattle.records.proofs.ReadBack.{read-back}
+use Rattle.writers.proofs.ReadBack.{read-back}
 use Rattle.claims.proofs.Lists.{calls-are-the-machine}
 use Rattle.claims.proofs.calls_are_the_machine.Statement.{statement}
 use Rattle.claims.proofs.calls_are_the_machine.Tie as tie

@@ -1,12 +1,13 @@
 -- `claims::job_numbers_on_their_conditions`: the law of rules, at each call's list. Assumes nothing.
 use mathlib.Core.List.{[], _∷_}
-use Rattle.machine.specs.Failing.{fails}
+use Rattle.function.specs.Failing.{fails}
 use Rattle.cell.specs.Calls.{tableRules, pastRows}
 use Rattle.job.specs.Machine.{run, fresh}
 use Rattle.job.specs.Calls.{callBudget, jobRules}
 use Rattle.view.specs.Calls.{shownIn}
 use Rattle.claims.proofs.Rules.{by-rules}
 use Rattle.claims.proofs.CarryOn.{carry-on-open, carry-on-ended}
+use Rattle.table.specs.Table.{functionOf}
 use Rattle.claims.proofs.job_numbers_on_their_conditions.Statement.{statement}
 use Rattle.claims.proofs.job_numbers_on_their_conditions.Tie as tie
 
@@ -16,7 +17,7 @@ returns c = record {
   decided = λ t. by-rules (tableRules t []) (run callBudget (fresh t));
   carry-on = carry-on-open;
   carry-on-ended = carry-on-ended;
-  row-fails = λ j r. by-rules (jobRules j (pastRows (j .table .n) r ∷ [])) (fails (j .table) (j .v) r);
+  row-fails = λ j r. by-rules (jobRules j (pastRows (j .table .n) r ∷ [])) (fails (functionOf (j .table)) (j .v) r);
   show-job = λ j. by-rules (jobRules j []) (shownIn (j .stage) j);
 }
 

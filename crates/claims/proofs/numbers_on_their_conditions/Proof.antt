@@ -1,19 +1,21 @@
 -- `claims::numbers_on_their_conditions`: the law of rules, at each call's list. Assumes nothing.
 use mathlib.Core.List.{[]}
 use Rattle.table.specs.Table.{value}
-use Rattle.table.specs.Gate.{gateTrue, realises}
+use Rattle.table.specs.Gate.{realises}
+use Rattle.function.specs.Gate.{gateTrue}
 use Rattle.table.specs.Witness.{balances}
 use Rattle.table.specs.Inputs.{kindsOf}
 use Rattle.table.specs.Chow.{chowOf}
 use Rattle.cell.specs.Calls.{tableRules, tableValueRules, gateValueRules, checkGateRules, checkWitnessRules}
 use Rattle.claims.proofs.Rules.{by-rules}
+use Rattle.function.specs.Function.{level}
 use Rattle.claims.proofs.numbers_on_their_conditions.Statement.{statement}
 use Rattle.claims.proofs.numbers_on_their_conditions.Tie as tie
 
 returns : tie.Need-returns
 returns c = record {
   table-value = λ t r. by-rules (tableValueRules t r) (value t r);
-  gate-value = λ g r. by-rules (gateValueRules g r) (gateTrue (g .weights) (g .threshold) r);
+  gate-value = λ g r. by-rules (gateValueRules g r) (gateTrue (g .weights) (g .threshold) (level 2 r));
   check-gate = λ t g. by-rules (checkGateRules t g) (realises t g);
   check-witness = λ t w. by-rules (checkWitnessRules t w) (balances t w);
   input-kinds = λ t. by-rules (tableRules t []) (kindsOf t);

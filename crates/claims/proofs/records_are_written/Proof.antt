@@ -5,7 +5,7 @@ use Prim.Native.Nat.{ℕ}
 use lib.ListN.{length, take, drop}
 use Rattle.cell.specs.Refusal.{Answered}
 use Rattle.records.specs.Record.{recordBytes}
-use Rattle.records.specs.Calls.{recordRules, tooShort, lent}
+use Rattle.writers.specs.Calls.{recordRules, tooShort, lent}
 use Rattle.claims.proofs.Rules.{by-rules}
 use Rattle.claims.proofs.Records.{lent-start, lent-past, lent-length}
 use Rattle.claims.proofs.records_are_written.Statement.{statement}

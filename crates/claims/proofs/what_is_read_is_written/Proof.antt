@@ -1,6 +1,6 @@
 -- `claims::what_is_read_is_written`: the law of records, where a slice of the code holds bytes. Assumes nothing.
 use native.Mathlib.Omega.{arith}
-use Rattle.records.proofs.WriteBack.{write-back}
+use Rattle.writers.proofs.WriteBack.{write-back}
 use Rattle.claims.proofs.what_is_read_is_written.Statement.{statement}
 use Rattle.claims.proofs.what_is_read_is_written.Tie as tie
 

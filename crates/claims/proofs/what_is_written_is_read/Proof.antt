@@ -3,7 +3,7 @@ use mathlib.Core.Path.{_≡_}
 use lib.ListN.{length}
 use borrow.Author.Needs.{needs}
 use Rattle.records.specs.Record.{ofTable, ofGate, ofWitness, ofJob}
-use Rattle.records.proofs.ReadBack.{read-back}
+use Rattle.writers.proofs.ReadBack.{read-back}
 use Rattle.claims.proofs.what_is_written_is_read.Statement.{statement}
 use Rattle.claims.proofs.what_is_written_is_read.Tie as tie
 

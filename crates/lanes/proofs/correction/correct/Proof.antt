@@ -12,7 +12,7 @@ use mir.Syntax.{w16}
 use mir.Val.{toZ, ofZ, SFits}
 use borrow.Author.Needs.{needs}
 use Rattle.numbers.specs.Tabulate.{tabulate}
-use Rattle.machine.specs.Vector.{sign}
+use Rattle.function.specs.Vector.{sign}
 use Rattle.lanes.specs.Codes.{rowCode}
 use Rattle.numbers.proofs.TabulateLaws.{getD-unfilled}
 use Rattle.lanes.proofs.CorrectionLaws.{part, part-size, corrected-sums}

@@ -1,7 +1,7 @@
 -- `search::lowest` meets its contract. The loop's invariant: the least key of each block below `block` is not negative. The measure is what
 -- is left of the blocks. Assumes nothing.
 use mathlib.Core.Path.{_≡_, sym, _∙_, ap}
-use mathlib.Core.Bool.{true, false}
+use mathlib.Core.Bool.{true}
 use mathlib.Core.List.{List}
 use Prim.Native.Nat.{ℕ, _+_, _*_, _-_, _≤_, _<_}
 use native.Mathlib.Omega.{arith}
@@ -19,8 +19,7 @@ use Rattle.lanes.specs.Blocks.{blocksOf}
 use Rattle.lanes.specs.Codes.{oneOf}
 use Rattle.lanes.specs.Keys.{leastBelow, blockKey}
 use Rattle.lanes.proofs.BlockLaws.{blocks-le}
-use Rattle.lanes.proofs.SearchLaws.{part, length-part, part-holds, block-room}
-use Rattle.lanes.proofs.SearchLaws.{leastAt, NoneNegative, Passed, Answers, block-found, blocks-passed, nothing-found}
+use Rattle.lanes.proofs.SearchLaws.{part, length-part, part-holds, block-room, leastAt, NoneNegative, Passed, Answers, block-found, blocks-passed, nothing-found}
 use Rattle.lanes.proofs.search.lowest.Statement.{statement}
 use Rattle.lanes.proofs.search.lowest.Tie as tie
 

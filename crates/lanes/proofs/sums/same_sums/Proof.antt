@@ -15,8 +15,8 @@ use mir.Val.{toZ, ofZ, SFits}
 use mir.Facts.{toZ-ofZ}
 use Rattle.numbers.proofs.TestLaws.{not-passed}
 use Rattle.types.specs.declared.vector.Vector.{Vector}
-use Rattle.machine.specs.Vector.{sameVector}
-use Rattle.machine.proofs.VectorLaws.{same-vector-correct}
+use Rattle.function.specs.Vector.{sameVector}
+use Rattle.function.proofs.VectorLaws.{same-vector-correct}
 use Rattle.machine.proofs.RangeLaws.{in-range-correct}
 use Rattle.lanes.specs.Sums.{vectorSums}
 use Rattle.lanes.proofs.WeightLaws.{sums-same}

@@ -14,7 +14,7 @@ use Rattle.numbers.proofs.Int.{one-part, parts-sub, back}
 use Rattle.numbers.proofs.Widths.{fits-size, size-fits, wide-fits, wide-back}
 use Rattle.numbers.proofs.TabulateLaws.{filled, tabulate-getD, filled-none, filled-more, filled-all}
 use Rattle.types.specs.declared.vector.Vector.{Vector}
-use Rattle.machine.proofs.VectorLaws.{vector-eq}
+use Rattle.function.proofs.VectorLaws.{vector-eq}
 use Rattle.lanes.specs.Sums.{vectorSums}
 use Rattle.lanes.proofs.WeightLaws.{sums-threshold}
 use Rattle.lanes.proofs.sums.vector_of.Statement.{statement}

@@ -6,7 +6,8 @@ use native.Mathlib.Nat.{one-mul, mod-eq-of-lt}
 use native.Mathlib.Omega.{arith}
 use borrow.Author.Needs.{needs}
 use Rattle.table.proofs.InputLaws.{found-some}
-use Rattle.machine.proofs.BinateLaws.{pair-more-nowhere, one-more-le}
+use Rattle.machine.proofs.BinateLaws.{pair-more-nowhere}
+use Rattle.function.proofs.CountLaws.{one-more-le}
 use Rattle.machine.proofs.binate.add_pair.Statement.{statement}
 use Rattle.machine.proofs.binate.add_pair.Tie as tie
 
@@ -18,7 +19,7 @@ enum-told c = search needs
 
 returns : tie.Need-returns
 returns c o e =
-    let a = c .before .before .args in sym (pair-more-nowhere (a .place) o (a .counts .now) (sym e ∙ c .enum-told .given .1))
+    let a = c .before .before .args in sym (pair-more-nowhere 2 (a .place) o (a .counts .now) (sym e ∙ c .enum-told .given .1))
 
 abbrev start : tie.After-known-told → tie.Start
 start c = c .before .before .before

@@ -9,11 +9,11 @@ use borrow.Author.Tests.{eq-eqb, ne-eqb}
 use lib.Dec.{eqb}
 use Rattle.numbers.specs.Tabulate.{tabulate}
 use Rattle.types.specs.declared.table.Table.{Table}
-use Rattle.table.specs.Table.{rows}
+use Rattle.table.specs.Table.{rows, functionOf}
 use Rattle.machine.specs.declared.words.Pairs.{Pairs}
 use Rattle.machine.specs.Words.{packed, wordOf, inTable, rowWords}
-use Rattle.machine.specs.Binate.{binateAt}
-use Rattle.machine.proofs.BinateLaws.{binate-at-searches}
+use Rattle.function.specs.Binate.{binateAt}
+use Rattle.function.proofs.BinateLaws.{binate-at-searches}
 use Rattle.machine.proofs.TurnLaws.{gathered, turned, gather-none, gather-more, word-rises, word-falls, turn-found}
 use Rattle.machine.proofs.binate.binate_at.Statement.{statement}
 use Rattle.machine.proofs.binate.binate_at.Tie as tie
@@ -62,14 +62,14 @@ found-both : (c : tie.After-loop Inv-loop μ-loop) (t : Table)
     t .n ≤ 8
     → a .place < t .n
     → a .words .now ≡ rowWords t
-    → (not (eqb (at-end .rises) 0) && not (eqb (at-end .falls) 0)) ≡ binateAt t (a .place)
+    → (not (eqb (at-end .rises) 0) && not (eqb (at-end .falls) 0)) ≡ binateAt (functionOf t) (a .place)
 found-both c t h k e =
     let at-end = c .before .loop in
     let place = c .before .before .args .place in
     let all : at-end .at ≡ 4 = omega arith in
     let passed = at-end .inv .1 (inTable (rows t) (t .bytes)) e in
     ap₂ _&&_ (turn-found t true place h k all (passed .0)) (turn-found t false place h k all (passed .1))
-    ∙ sym (binate-at-searches t place)
+    ∙ sym (binate-at-searches (functionOf t) place)
 
 returns : tie.Need-returns Inv-loop μ-loop
 returns c t h k e =

@@ -8,20 +8,24 @@ use native.Mathlib.Omega.{arith}
 use borrow.Author.Needs.{needs}
 use Rattle.table.proofs.InputLaws.{found-some}
 use Rattle.table.specs.declared.inputs.Found.{Found}
-use Rattle.table.specs.Inputs.{firstTurn, found}
-use Rattle.machine.specs.Binate.{zeros, pairMore}
-use Rattle.machine.proofs.BinateLaws.{first-turn-partner, getD-zeros, pair-more-le, binate-counts-pairs}
+use Rattle.table.specs.Inputs.{found}
+use Rattle.function.specs.Turns.{firstTurn}
+use Rattle.function.specs.Binate.{zeros, pairMore}
+use Rattle.machine.proofs.BinateLaws.{first-turn-partner}
+use Rattle.function.proofs.CountLaws.{getD-zeros, pair-more-le}
+use Rattle.function.proofs.BinateLaws.{binate-counts-pairs}
+use Rattle.table.specs.Table.{functionOf}
 use Rattle.machine.proofs.binate.binate_counts.Statement.{statement}
 use Rattle.machine.proofs.binate.binate_counts.Tie as tie
 
 -- the answer of a search for a turn names a row with its partner below 256
-partner : (c : tie.Start) (to : Bool) {answer : Found} → answer ≡ found (firstTurn (c .args .table) to (c .args .place))
+partner : (c : tie.Start) (to : Bool) {answer : Found} → answer ≡ found (firstTurn (functionOf (c .args .table)) to (c .args .place))
     → (row : ℕ)
     → answer ≡ found (some row)
     → row + 2 ^ c .args .place < 256
 partner c to is row e =
     let a = c .args in
-    first-turn-partner (a .table) to (a .place) row (c .pre .0) (c .pre .1) (found-some (firstTurn (a .table) to (a .place)) row (sym is ∙ e))
+    first-turn-partner (a .table) to (a .place) row (c .pre .0) (c .pre .1) (found-some (firstTurn (functionOf (a .table)) to (a .place)) row (sym is ∙ e))
 
 first-turn-requires : tie.Need-first-turn-requires
 first-turn-requires c κs = search needs
@@ -35,9 +39,9 @@ first-turn-requires-2 c κs = search needs
 -- the counts of the first pair
 rising : (c : tie.After-add-pair)
     → let a = c .before .before .before .args in
-    c .add-pair .last .0 ≡ pairMore (a .place) (firstTurn (a .table) true (a .place)) zeros
+    c .add-pair .last .0 ≡ pairMore 2 (a .place) (firstTurn (functionOf (a .table)) true (a .place)) zeros
 rising c =
-    let a = c .before .before .before .args in c .add-pair .ensures (firstTurn (a .table) true (a .place)) (c .before .first-turn .ensures)
+    let a = c .before .before .before .args in c .add-pair .ensures (firstTurn (functionOf (a .table)) true (a .place)) (c .before .first-turn .ensures)
 
 add-pair-requires-2 : tie.Need-add-pair-requires-2
 add-pair-requires-2 c κs =
@@ -46,17 +50,17 @@ add-pair-requires-2 c κs =
     let a = start .args in (
       omega arith,
       partner start _ (c .first-turn2 .ensures),
-      λ row. rw (rising added) (omega (arith, pair-more-le (a .place) (firstTurn (a .table) true (a .place)) zeros row, getD-zeros row)),
+      λ row. rw (rising added) (omega (arith, pair-more-le 2 (a .place) (firstTurn (functionOf (a .table)) true (a .place)) zeros row, getD-zeros row)),
     )
 
 returns : tie.Need-returns
 returns c =
     let added = c .before .before .before in
     let a = added .before .before .before .args in
-    let falls = firstTurn (a .table) false (a .place) in
+    let falls = firstTurn (functionOf (a .table)) false (a .place) in
     c .add-pair2 .ensures falls (c .before .first-turn2 .ensures)
-    ∙ ap (pairMore (a .place) falls) (rising added)
-    ∙ sym (binate-counts-pairs (a .table) (a .place))
+    ∙ ap (pairMore 2 (a .place) falls) (rising added)
+    ∙ sym (binate-counts-pairs (functionOf (a .table)) (a .place))
 
 pub binate-counts-spec : {M : Type 1} → statement M
 binate-counts-spec =

@@ -10,14 +10,15 @@ use Rattle.numbers.proofs.FirstLaws.{first-at, first-fails}
 use Rattle.types.specs.declared.table.Table.{Table}
 use Rattle.table.specs.Inputs.{found}
 use Rattle.machine.specs.Words.{rowWords}
-use Rattle.machine.specs.Binate.{binateAt}
-use Rattle.machine.proofs.BinateLaws.{binate-place-search}
+use Rattle.function.specs.Binate.{binateAt}
+use Rattle.function.proofs.BinateLaws.{binate-place-search}
+use Rattle.table.specs.Table.{functionOf}
 use Rattle.machine.proofs.binate.binate_place.Statement.{statement}
 use Rattle.machine.proofs.binate.binate_place.Tie as tie
 
 abbrev Inv-loop : tie.InvT-loop
 Inv-loop words n place₀ place =
-    (place ≤ n) × ((t : Table) → t .n ≤ 8 → t .n ≡ n → words ≡ rowWords t → (p : ℕ) → p < place → binateAt t p ≡ false)
+    (place ≤ n) × ((t : Table) → t .n ≤ 8 → t .n ≡ n → words ≡ rowWords t → (p : ℕ) → p < place → binateAt (functionOf t) p ≡ false)
 
 abbrev μ-loop : tie.MeasureT-loop
 μ-loop words n place₀ place = n - place
@@ -38,7 +39,7 @@ binate-at-requires c κs = search needs
 abbrev table : tie.At-loop Inv-loop μ-loop → Table
 table c = c .before .before .before .args .table
 
-passed : (c : tie.At-loop Inv-loop μ-loop) (p : ℕ) → p < c .loop .place → binateAt (table c) p ≡ false
+passed : (c : tie.At-loop Inv-loop μ-loop) (p : ℕ) → p < c .loop .place → binateAt (functionOf (table c)) p ≡ false
 passed c = c .loop .inv .1 (table c) (c .before .before .before .pre) refl (c .before .before .row-words .ensures)
 
 returns : tie.Need-returns Inv-loop μ-loop
@@ -48,8 +49,8 @@ returns c =
     let words-are = head .before .before .row-words .ensures in
     sym
     (ap found
-    (binate-place-search t
-    ∙ first-at (binateAt t) (t .n) 0 (head .loop .place)
+    (binate-place-search (functionOf t)
+    ∙ first-at (binateAt (functionOf t)) (t .n) 0 (head .loop .place)
     record {
       start = omega arith;
       inside = omega arith;
@@ -73,7 +74,7 @@ loop-again c =
 returns-2 : tie.Need-returns-2 Inv-loop μ-loop
 returns-2 c =
     let t = table (c .before) in
-    sym (ap found (binate-place-search t ∙ first-fails (binateAt t) (t .n) 0 (λ p l h. passed (c .before) p (omega arith))))
+    sym (ap found (binate-place-search (functionOf t) ∙ first-fails (binateAt (functionOf t)) (t .n) 0 (λ p l h. passed (c .before) p (omega arith))))
 
 pub binate-place-spec : {M : Type 1} → statement M
 binate-place-spec =

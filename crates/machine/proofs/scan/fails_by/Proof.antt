@@ -1,7 +1,7 @@
 -- `scan::fails_by` meets its contract: the margin of a false row is the distance negated, below 1 exactly if the distance is above −1.
 -- Assumes nothing.
 use mir.Facts.{toZ-ofZ}
-use Rattle.machine.proofs.FailingLaws.{above-below}
+use Rattle.function.proofs.FailingLaws.{above-below}
 use Rattle.machine.proofs.scan.fails_by.Statement.{statement}
 use Rattle.machine.proofs.scan.fails_by.Tie as tie
 

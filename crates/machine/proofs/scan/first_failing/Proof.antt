@@ -17,9 +17,9 @@ use mir.Val.{toZ, ofZ, SFits}
 use mir.Facts.{toZ-ofZ}
 use Rattle.numbers.proofs.Int.{up, dn, natAbs-parts}
 use Rattle.numbers.proofs.Widths.{size-fits}
-use Rattle.table.specs.Gate.{distance, weightLimit}
+use Rattle.table.specs.Gate.{weightLimit}
 use Rattle.table.specs.Inputs.{found}
-use Rattle.machine.specs.Scan.{failsAt, Holds}
+use Rattle.machine.specs.Scan.{rowDistance, failsAt, Holds}
 use Rattle.machine.proofs.RangeLaws.{InRange, in-range-correct, in-range-at}
 use Rattle.machine.proofs.DistanceLaws.{distance-zero, distance-size}
 use Rattle.machine.proofs.ScanLaws.{Passed, fails-at-test, blockSearch, block-row, block-passed, scan-row, scan-nowhere}
@@ -29,8 +29,8 @@ use Rattle.machine.proofs.scan.first_failing.Tie as tie
 abbrev Inv-loop : tie.InvT-loop
 Inv-loop distances₀ values v first n place₀ distances place =
     (place ≤ n)
-    × ((r : ℕ) → r < 2 ^ place → failsAt values (distance (v .a) (v .b)) r ≡ false)
-    × (length distances ≡ 256 → Holds (distance (v .a) (v .b)) (2 ^ place) distances)
+    × ((r : ℕ) → r < 2 ^ place → failsAt values (rowDistance (v .a) (v .b)) r ≡ false)
+    × (length distances ≡ 256 → Holds (rowDistance (v .a) (v .b)) (2 ^ place) distances)
 
 abbrev μ-loop : tie.MeasureT-loop
 μ-loop distances₀ values v first n place₀ distances place = n - place
@@ -42,7 +42,7 @@ range c = in-range-correct weightLimit 8 (c .args .t4 .a) (c .args .t4 .b) .0 (c
 
 -- the distance of a row, and its size
 abbrev away : tie.Start Inv-loop μ-loop → ℕ → ℤ
-away c = distance (c .args .t4 .a) (c .args .t4 .b)
+away c = rowDistance (c .args .t4 .a) (c .args .t4 .b)
 
 away-size : (c : tie.Start Inv-loop μ-loop) (r : ℕ) → up (away c r) + dn (away c r) ≤ 9 * weightLimit
 away-size c r = distance-size weightLimit 8 (c .args .t4 .a) (c .args .t4 .b) r (search needs) (range c)

@@ -19,24 +19,24 @@ use Rattle.numbers.proofs.Int.{natAbs-parts}
 use Rattle.numbers.proofs.Ring.{*ℤ-idl}
 use Rattle.numbers.proofs.Widths.{size-fits}
 use Rattle.numbers.proofs.TabulateLaws.{filled, length-tabulate, tabulate-getD, filled-none, filled-more, filled-all}
-use Rattle.table.specs.Table.{level}
+use Rattle.function.specs.Function.{level}
 use Rattle.table.specs.Gate.{weightLimit}
 use Rattle.table.proofs.TableLaws.{level-lt}
 use Rattle.types.specs.declared.vector.Vector.{Vector}
-use Rattle.machine.specs.Vector.{sign, correctedBy}
-use Rattle.machine.proofs.VectorLaws.{getD-add-levels, corrected-weights, corrected-threshold, length-corrected, vector-eq}
-use Rattle.machine.proofs.RangeLaws.{InRange, in-range-correct, in-range-at, corrected-in-range}
+use Rattle.function.specs.Vector.{sign, correctedBy}
+use Rattle.function.proofs.VectorLaws.{getD-add-levels, corrected-weights, corrected-threshold, length-corrected, vector-eq}
+use Rattle.machine.proofs.RangeLaws.{InRange, in-range-correct, in-range-at, row-in-range}
 use Rattle.machine.proofs.vector.corrected_by.Statement.{statement}
 use Rattle.machine.proofs.vector.corrected_by.Tie as tie
 
 -- the weight at a place of the corrected vector
 abbrev weight : Bool → ℕ → Vector → ℕ → ℤ
-weight value row v place = getD ((correctedBy value row v) .a) place (pos 0)
+weight value row v place = getD ((correctedBy value (level 2 row) v) .a) place (pos 0)
 
 module _ (value : Bool) (row : ℕ) (v : Vector) (place : ℕ) (h : place < length (v .a)) where
   weight-is : weight value row v place ≡ getD (v .a) place (pos 0) +ℤ pos (level 2 row place) *ℤ sign value
   weight-is =
-      ap (λ (l : List ℤ). getD l place (pos 0)) (corrected-weights value row v) ∙ getD-add-levels (sign value) (level 2 row) (v .a) place h
+      ap (λ (l : List ℤ). getD l place (pos 0)) (corrected-weights value (level 2 row) v) ∙ getD-add-levels (sign value) (level 2 row) (v .a) place h
 
   -- a place whose input is true is added the sign
   weight-true : level 2 row place ≡ 1 → weight value row v place ≡ getD (v .a) place (pos 0) +ℤ sign value
@@ -63,7 +63,7 @@ abbrev μ-loop : tie.MeasureT-loop
 μ-loop value row step next₀ place₀ next place = 8 - place
 
 abbrev corrected : tie.Start Inv-loop μ-loop → Vector
-corrected c = correctedBy (c .args .value) (c .args .row) (c .args .v)
+corrected c = correctedBy (c .args .value) (level 2 (c .args .row)) (c .args .v)
 
 -- there are eight weights
 eight : (c : tie.Start Inv-loop μ-loop) → length (c .args .v .a) ≡ 8
@@ -72,7 +72,7 @@ eight c = search needs
 in-range : (c : tie.Start Inv-loop μ-loop) → InRange (weightLimit + 1) 8 (corrected c .a) (corrected c .b)
 in-range c =
     let v = c .args .v in
-    corrected-in-range weightLimit 8 (c .args .value) (c .args .row) v (c .pre .0) (eight c) (in-range-correct weightLimit 8 (v .a) (v .b) .0 (c .pre .1))
+    row-in-range weightLimit 8 (c .args .value) (c .args .row) v (c .pre .0) (eight c) (in-range-correct weightLimit 8 (v .a) (v .b) .0 (c .pre .1))
 
 -- the step is the sign of the row's value
 step-is : (c : tie.Joined1 Inv-loop μ-loop) → toZ w32 (c .if1 .step) ≡ sign (c .before .args .value)
@@ -169,7 +169,7 @@ threshold-is : (c : tie.After-struct-told Inv-loop μ-loop)
     ≡ corrected (c .before .before .before .before) .b
 threshold-is c =
     let head = c .before .before in
-    ap₂ _-ℤ_ (toZ-ofZ (search needs) ∙ head .loop .inv .1) (step-is (head .before)) ∙ sym (corrected-threshold _ _ _)
+    ap₂ _-ℤ_ (toZ-ofZ (search needs) ∙ head .loop .inv .1) (step-is (head .before)) ∙ sym (corrected-threshold _ (level 2 _) _)
 
 sub-next : tie.Need-sub-next Inv-loop μ-loop
 sub-next c = rw (threshold-is c) (limit-fits (in-range (c .before .before .before .before) .threshold))
@@ -181,7 +181,7 @@ weights-are c =
     let a = start .args in
     let f = weight (a .value) (a .row) (a .v) in
     filled-all f (a .v .a) (head .loop .place) 8 (omega arith) (omega (arith, eight start)) (head .loop .inv .2)
-    ∙ sym (tabulate-getD f 8 (pos 0) (corrected start .a) (length-corrected (a .value) (a .row) (a .v) ∙ eight start) (λ i h. refl))
+    ∙ sym (tabulate-getD f 8 (pos 0) (corrected start .a) (length-corrected (a .value) (level 2 (a .row)) (a .v) ∙ eight start) (λ i h. refl))
 
 returns : tie.Need-returns Inv-loop μ-loop
 returns c = vector-eq _ _ (weights-are (c .before)) (toZ-ofZ (sub-next c) ∙ threshold-is c)

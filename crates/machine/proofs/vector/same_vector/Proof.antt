@@ -14,8 +14,8 @@ use borrow.Author.Count.{below-more}
 use borrow.Author.Needs.{needs}
 use Rattle.numbers.proofs.TestLaws.{not-passed}
 use Rattle.types.specs.declared.vector.Vector.{Vector}
-use Rattle.machine.specs.Vector.{sameVector}
-use Rattle.machine.proofs.VectorLaws.{vector-eq, same-vector-correct}
+use Rattle.function.specs.Vector.{sameVector}
+use Rattle.function.proofs.VectorLaws.{vector-eq, same-vector-correct}
 use Rattle.machine.proofs.vector.same_vector.Statement.{statement}
 use Rattle.machine.proofs.vector.same_vector.Tie as tie
 

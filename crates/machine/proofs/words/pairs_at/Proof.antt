@@ -11,7 +11,7 @@ use lib.ListN.{getD}
 use lib.Pow.{pow-mono}
 use Rattle.numbers.specs.Tabulate.{tabulate}
 use Rattle.numbers.proofs.TabulateLaws.{getD-tabulate}
-use Rattle.table.specs.Table.{level}
+use Rattle.function.specs.Function.{level}
 use Rattle.table.proofs.TableLaws.{level-lt, partner-below}
 use Rattle.machine.specs.declared.words.Pairs.{Pairs}
 use Rattle.machine.specs.Words.{wordOf}

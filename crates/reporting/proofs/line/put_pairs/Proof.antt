@@ -7,7 +7,7 @@ use native.Mathlib.Omega.{arith}
 use lib.ListN.{length}
 use denote.Ref.{now}
 use borrow.Author.Needs.{needs}
-use Rattle.table.specs.Witness.{countOf}
+use Rattle.function.specs.Witness.{countOf}
 use Rattle.codec.proofs.WrittenLaws.{Written, written-length, written-nil, turn-room, turn-written}
 use Rattle.reporting.specs.Lines.{pairText, pairsText}
 use Rattle.reporting.proofs.PairTextLaws.{pairs-text-zero, pairs-text-next}

@@ -2,12 +2,13 @@
 use mathlib.Core.Path.{_≡_, sym, _∙_, ap}
 use mathlib.Core.Option.{Option, some}
 use Prim.Native.Nat.{ℕ}
-use Rattle.machine.proofs.BinateLaws.{binate-place-lt}
+use Rattle.function.proofs.BinateLaws.{binate-place-lt}
 use Rattle.table.specs.Witness.{sameCounts}
 use Rattle.table.proofs.InputLaws.{found-some, found-none}
-use Rattle.machine.specs.Binate.{binatePlace}
+use Rattle.function.specs.Binate.{binatePlace}
 use Rattle.state.specs.Sound.{isBinateWith}
 use borrow.Author.Needs.{needs}
+use Rattle.table.specs.Table.{functionOf}
 use Rattle.soundness.proofs.sound.has_binate_counts.Statement.{statement}
 use Rattle.soundness.proofs.sound.has_binate_counts.Tie as tie
 
@@ -24,14 +25,14 @@ returns : tie.Need-returns
 returns c =
     let answer = c .before .before in
     let a = answer .before .args in
-    ap (λ (o : Option ℕ). isBinateWith (a .table) o (a .state)) (sym (found-none (binatePlace (a .table)) (sym (answer .binate-place .ensures) ∙ c .enum-told .given .1)))
+    ap (λ (o : Option ℕ). isBinateWith (a .table) o (a .state)) (sym (found-none (binatePlace (functionOf (a .table))) (sym (answer .binate-place .ensures) ∙ c .enum-told .given .1)))
 
 -- the place that the search has found
-place-is : (c : tie.After-known-told) → binatePlace (c .before .before .before .before .args .table) ≡ some (c .before .place .given .0 .0)
+place-is : (c : tie.After-known-told) → binatePlace (functionOf (c .before .before .before .before .args .table)) ≡ some (c .before .place .given .0 .0)
 place-is c = found-some _ _ (sym (c .before .before .before .binate-place .ensures) ∙ c .before .place .given .1)
 
 binate-counts-requires : tie.Need-binate-counts-requires
-binate-counts-requires c κs = (search needs, binate-place-lt _ _ (place-is (c .before)))
+binate-counts-requires c κs = (search needs, binate-place-lt (functionOf _) _ (place-is (c .before)))
 
 same-counts-requires : tie.Need-same-counts-requires
 same-counts-requires c κs = search needs

@@ -4,11 +4,11 @@ use mathlib.Core.Bool.{not}
 use borrow.Author.Tests.{not-true, not-false}
 use Rattle.table.specs.Inputs.{isRow}
 use Rattle.table.proofs.InputLaws.{is-row-found}
-use Rattle.machine.specs.Binate.{binatePlace}
-use Rattle.types.specs.declared.state.State.{State}
+use Rattle.function.specs.Binate.{binatePlace}
 use Rattle.state.specs.Sound.{isTraced}
 use Rattle.soundness.proofs.TestLaws.{and-passed, and-failed}
 use borrow.Author.Needs.{needs}
+use Rattle.table.specs.Table.{functionOf}
 use Rattle.soundness.proofs.sound.is_unate_trace.Statement.{statement}
 use Rattle.soundness.proofs.sound.is_unate_trace.Tie as tie
 
@@ -37,7 +37,7 @@ returns-2 c =
     let traced = c .before .before in
     let t = start (traced .before) .args .table in
     and-passed (traced-is (traced .before)) (not-false _ (traced .if1 .left))
-    (ap not (c .is-row .ensures ∙ ap isRow (c .before .binate-place .ensures) ∙ is-row-found (binatePlace t)))
+    (ap not (c .is-row .ensures ∙ ap isRow (c .before .binate-place .ensures) ∙ is-row-found (binatePlace (functionOf t))))
 
 pub is-unate-trace-spec : {M : Type 1} → statement M
 is-unate-trace-spec =

@@ -4,8 +4,9 @@ use mathlib.Core.Path.{_∙_, ap}
 use borrow.Author.Needs.{needs}
 use Rattle.table.specs.Inputs.{isRow}
 use Rattle.table.proofs.InputLaws.{is-row-found}
-use Rattle.machine.specs.Failing.{failing}
+use Rattle.function.specs.Failing.{failing}
 use Rattle.state.proofs.SoundBounds.{in-range-search}
+use Rattle.table.specs.Table.{functionOf}
 use Rattle.soundness.proofs.sound.some_fails.Statement.{statement}
 use Rattle.soundness.proofs.sound.some_fails.Tie as tie
 
@@ -26,7 +27,7 @@ is-row-requires c κs = search needs
 returns : tie.Need-returns
 returns c =
     let a = c .before .before .before .before .before .args in
-    c .is-row .ensures ∙ ap isRow (c .before .first-failing .ensures) ∙ is-row-found (failing (a .table) (a .state .v))
+    c .is-row .ensures ∙ ap isRow (c .before .first-failing .ensures) ∙ is-row-found (failing (functionOf (a .table)) (a .state .v))
 
 pub some-fails-spec : {M : Type 1} → statement M
 some-fails-spec =

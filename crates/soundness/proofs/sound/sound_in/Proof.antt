@@ -4,26 +4,27 @@ use mathlib.Core.Bool.{Bool, not, _&&_, _||_, and-assoc}
 use borrow.Author.Needs.{needs}
 use lib.Dec.{leb, eqb}
 use Rattle.numbers.specs.Tests.{allAtMost, isSome}
-use Rattle.machine.specs.Vector.{sameVector, zeroVector}
-use Rattle.machine.specs.Failing.{failing}
-use Rattle.machine.specs.Binate.{binatePlace}
+use Rattle.function.specs.Vector.{sameVector, zeroVector}
+use Rattle.function.specs.Failing.{failing}
+use Rattle.function.specs.Binate.{binatePlace}
 use Rattle.types.specs.declared.table.Table.{Table}
 use Rattle.types.specs.declared.state.State.{State}
 use Rattle.types.specs.declared.stage.Stage.{Stage}
 use Rattle.types.specs.declared.stage.Stage.the-variants.{Open, Found, Looped, Binate}
 use Rattle.state.specs.Sound.{isTraced, isBinateWith, soundIn}
 use Rattle.soundness.proofs.TestLaws.{and-passed, and-failed}
+use Rattle.table.specs.Table.{functionOf}
 use Rattle.soundness.proofs.sound.sound_in.Statement.{statement}
 use Rattle.soundness.proofs.sound.sound_in.Tie as tie
 
 module _ (t : Table) (x : State) where
   -- traced, on a table that is not binate
   abbrev unateTrace : Bool
-  unateTrace = isTraced t x && not (isSome (binatePlace t))
+  unateTrace = isTraced t x && not (isSome (binatePlace (functionOf t)))
 
   -- some row fails, and v differs from s unless all counts are 0
   abbrev goesOn : Bool
-  goesOn = isSome (failing t (x .v)) && (not (sameVector (x .v) (x .s)) || allAtMost 0 (x .counts))
+  goesOn = isSome (failing (functionOf t) (x .v)) && (not (sameVector (x .v) (x .s)) || allAtMost 0 (x .counts))
 
   -- a correction has led back to s
   abbrev hasLooped : Bool
@@ -32,18 +33,18 @@ module _ (t : Table) (x : State) where
   -- what the stages open and looped ask, in these parts
   open-parts : (unateTrace && goesOn) ≡ soundIn t Open x
   unfolding soundIn
-  open-parts = sym (and-assoc unateTrace (isSome (failing t (x .v))) (not (sameVector (x .v) (x .s)) || allAtMost 0 (x .counts)))
+  open-parts = sym (and-assoc unateTrace (isSome (failing (functionOf t) (x .v))) (not (sameVector (x .v) (x .s)) || allAtMost 0 (x .counts)))
 
   looped-parts : (unateTrace && hasLooped) ≡ soundIn t Looped x
   unfolding soundIn
   looped-parts = sym (and-assoc unateTrace (leb 2 (x .k)) (sameVector (x .v) (x .s)))
 
   -- the stages found and binate ask what they say
-  found-parts : (unateTrace && not (isSome (failing t (x .v)))) ≡ soundIn t Found x
+  found-parts : (unateTrace && not (isSome (failing (functionOf t) (x .v)))) ≡ soundIn t Found x
   unfolding soundIn
   found-parts = refl
 
-  binate-parts : (eqb (x .k) 0 && sameVector (x .v) zeroVector && sameVector (x .s) zeroVector && isBinateWith t (binatePlace t) x) ≡ soundIn t Binate x
+  binate-parts : (eqb (x .k) 0 && sameVector (x .v) zeroVector && sameVector (x .s) zeroVector && isBinateWith t (binatePlace (functionOf t)) x) ≡ soundIn t Binate x
   unfolding soundIn
   binate-parts = refl
 

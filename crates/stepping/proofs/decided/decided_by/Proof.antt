@@ -7,6 +7,7 @@ use Rattle.state.specs.Machine.{run, callBudget}
 use Rattle.state.specs.Sound.{Sound}
 use Rattle.state.proofs.MachineLaws.{fresh-k}
 use Rattle.state.proofs.FreshSound.{fresh-sound}
+use Rattle.table.specs.Table.{functionOf}
 use Rattle.stepping.proofs.decided.decided_by.Statement.{statement}
 use Rattle.stepping.proofs.decided.decided_by.Tie as tie
 
@@ -19,13 +20,13 @@ steps-requires c κs =
     let t = c .before .args .table in
     let is = c .fresh-state .ensures in (
       p .0,
-      subst (Sound t) (sym is) (fresh-sound t (p .0)),
-      omega (arith, ap (λ (x : State). x .k) is, fresh-k t),
+      subst (Sound (functionOf t)) (sym is) (fresh-sound (functionOf t)),
+      omega (arith, ap (λ (x : State). x .k) is, fresh-k (functionOf t)),
       p .1,
     )
 
 returns : tie.Need-returns
-returns c = c .steps .ensures ∙ ap (run (c .before .before .args .table) callBudget) (c .before .fresh-state .ensures)
+returns c = c .steps .ensures ∙ ap (run (functionOf (c .before .before .args .table)) callBudget) (c .before .fresh-state .ensures)
 
 pub decided-by-spec : {M : Type 1} → statement M
 decided-by-spec = tie.close (tie.spec fresh-state-requires steps-requires returns)

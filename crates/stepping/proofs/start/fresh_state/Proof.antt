@@ -4,13 +4,15 @@ use mathlib.Core.List.{List}
 use mathlib.Core.Option.{some}
 use Prim.Native.Nat.{ℕ}
 use borrow.Author.Needs.{needs}
-use Rattle.machine.proofs.BinateLaws.{binate-place-lt}
+use Rattle.function.proofs.BinateLaws.{binate-place-lt}
 use Rattle.table.proofs.InputLaws.{found-some, found-none}
 use Rattle.types.specs.declared.table.Table.{Table}
-use Rattle.machine.specs.Binate.{binatePlace}
+use Rattle.function.specs.Binate.{binatePlace}
 use Rattle.types.specs.declared.stage.Stage.the-variants as Stage′
 use Rattle.state.specs.Machine.{startState}
-use Rattle.state.proofs.MachineLaws.{fresh-open, fresh-binate}
+use Rattle.state.proofs.MachineLaws.{fresh-binate}
+use Rattle.state.proofs.FreshSound.{table-fresh-open}
+use Rattle.table.specs.Table.{functionOf}
 use Rattle.stepping.proofs.start.fresh_state.Statement.{statement}
 use Rattle.stepping.proofs.start.fresh_state.Tie as tie
 
@@ -30,7 +32,7 @@ returns : tie.Need-returns
 returns c =
     let at = c .before .before .before in
     let t = at .before .args .table in
-    c .start-state .ensures ∙ sym (fresh-open t (found-none (binatePlace t) (sym (at .binate-place .ensures) ∙ c .before .enum-told .given .1)))
+    c .start-state .ensures ∙ sym (table-fresh-open t (found-none (binatePlace (functionOf t)) (sym (at .binate-place .ensures) ∙ c .before .enum-told .given .1)))
 
 -- the table, and the place that was found
 abbrev table : tie.After-known-told → Table
@@ -39,11 +41,11 @@ table c = c .before .before .before .before .args .table
 abbrev place : tie.After-known-told → ℕ
 place c = c .before .place .given .0 .0
 
-place-found : (c : tie.After-known-told) → binatePlace (table c) ≡ some (place c)
-place-found c = found-some (binatePlace (table c)) (place c) (sym (c .before .before .before .binate-place .ensures) ∙ c .before .place .given .1)
+place-found : (c : tie.After-known-told) → binatePlace (functionOf (table c)) ≡ some (place c)
+place-found c = found-some (binatePlace (functionOf (table c))) (place c) (sym (c .before .before .before .binate-place .ensures) ∙ c .before .place .given .1)
 
 binate-counts-requires : tie.Need-binate-counts-requires
-binate-counts-requires c κs = (c .before .before .before .before .pre, binate-place-lt (table c) (place c) (place-found c))
+binate-counts-requires c κs = (c .before .before .before .before .pre, binate-place-lt (functionOf (table c)) (place c) (place-found c))
 
 start-state-requires-2 : tie.Need-start-state-requires-2
 start-state-requires-2 c κs = search needs
@@ -54,7 +56,7 @@ returns-2 c =
     let t = table at in
     c .start-state2 .ensures
     ∙ ap (λ (counts : List ℕ). startState counts Stage′.Binate) (c .before .binate-counts .ensures)
-    ∙ sym (fresh-binate t (place at) (place-found at))
+    ∙ sym (fresh-binate (functionOf t) (place at) (place-found at))
 
 pub fresh-state-spec : {M : Type 1} → statement M
 fresh-state-spec =

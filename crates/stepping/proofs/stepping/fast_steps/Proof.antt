@@ -4,13 +4,13 @@ use mathlib.Core.Path.{_≡_}
 use mathlib.Core.Logic.{⊎-elim}
 use Prim.Native.Nat.{_≤_, _<_}
 use native.Mathlib.Omega.{arith}
-use borrow.Author.Needs.{needs}
 use Rattle.lanes.specs.Sums.{magnitude}
 use Rattle.types.specs.declared.stage.Stage.the-variants.{Open}
 use Rattle.chunks.specs.Core.{stateOf}
 use Rattle.state.specs.Sound.{Sound}
-use Rattle.state.proofs.SoundBounds.{in-range-search}
+use Rattle.state.proofs.SoundBounds.{in-range-search, table-current, table-copied}
 use Rattle.stepping.proofs.LeftLaws.{Left, left-start, left-next, left-sound, left-capped}
+use Rattle.table.specs.Table.{functionOf}
 use Rattle.stepping.proofs.stepping.fast_steps.Statement.{statement}
 use Rattle.stepping.proofs.stepping.fast_steps.Tie as tie
 
@@ -24,15 +24,15 @@ loop-holds : tie.Need-loop-holds Inv-loop μ-loop
 loop-holds c = left-start _ _
 
 -- the loop's state is sound
-sound : (c : tie.At-loop Inv-loop μ-loop) → Sound (c .before .args .table) (stateOf (c .loop .core) (c .loop .counts))
+sound : (c : tie.At-loop Inv-loop μ-loop) → Sound (functionOf (c .before .args .table)) (stateOf (c .loop .core) (c .loop .counts))
 sound c = let p = c .before .pre in left-sound (c .loop .inv) (p .0) (p .1) (p .2)
 
 is-fast-requires : tie.Need-is-fast-requires Inv-loop μ-loop
 is-fast-requires c κs =
     let core = c .loop .core in
     let n = c .before .args .table .n in (
-      in-range-search (core .k) n (core .v .a) (core .v .b) (sound c .capped) (sound c .current),
-      in-range-search (core .k) n (core .s .a) (core .s .b) (sound c .capped) (sound c .copied),
+      in-range-search (core .k) n (core .v .a) (core .v .b) (sound c .capped) (table-current (c .before .args .table) (sound c)),
+      in-range-search (core .k) n (core .s .a) (core .s .b) (sound c .capped) (table-copied (c .before .args .table) (sound c)),
     )
 
 -- what the fast form asks of the loop's state

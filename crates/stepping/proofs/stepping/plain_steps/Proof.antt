@@ -13,10 +13,10 @@ use borrow.Author.Tests.{eq-eqb, ne-eqb}
 use Rattle.numbers.proofs.TabulateLaws.{getD-tabulate}
 use Rattle.table.specs.declared.inputs.Found.{Found}
 use Rattle.table.specs.declared.inputs.Found.the-variants.{Row}
-use Rattle.table.specs.Table.{value}
+use Rattle.table.specs.Table.{value, functionOf}
 use Rattle.table.specs.Inputs.{found}
 use Rattle.table.proofs.TableLaws.{rows-le}
-use Rattle.machine.specs.Failing.{failing}
+use Rattle.function.specs.Failing.{failing}
 use Rattle.types.specs.declared.table.Table.{Table}
 use Rattle.types.specs.declared.state.State.{State}
 use Rattle.state.specs.Machine.{run}
@@ -29,7 +29,7 @@ use Rattle.stepping.proofs.stepping.plain_steps.Tie as tie
 -- the invariant: `made` of the budget's steps are made from `start`
 record Turned (t : Table) (start : State) (budget made : ℕ) (x : State) (next : Found) : Type 0 where
   stands : Stands t start made x
-  search : next ≡ found (failing t (x .v))
+  search : next ≡ found (failing (functionOf t) (x .v))
   within : made ≤ budget
 
 abbrev Inv-loop : tie.InvT-loop
@@ -98,7 +98,7 @@ head c = c .before .before .before .before
 abbrev row : tie.After-known-told Inv-loop μ-loop → ℕ
 row c = c .before .next .given .0 .0
 
-row-found : (c : tie.After-known-told Inv-loop μ-loop) → found (failing (table (head c)) (head c .loop .j .v)) ≡ Row (row c)
+row-found : (c : tie.After-known-told Inv-loop μ-loop) → found (failing (functionOf (table (head c))) (head c .loop .j .v)) ≡ Row (row c)
 row-found c = sym (head c .loop .inv .search) ∙ c .before .next .given .1
 
 -- it is one of the 256
@@ -211,7 +211,7 @@ returns-3 : tie.Need-returns-3 Inv-loop μ-loop
 returns-3 c =
     let at = c .before .before .before in
     let inv = at .loop .inv in
-    stands-open (inv .stands) (sym (inv .search) ∙ c .enum-told2 .given .1) ∙ ap (λ (m : ℕ). run (table at) m (state at)) (omega arith)
+    stands-open (inv .stands) (sym (inv .search) ∙ c .enum-told2 .given .1) ∙ ap (λ (m : ℕ). run (functionOf (table at)) m (state at)) (omega arith)
 
 returns-4 : tie.Need-returns-4 Inv-loop μ-loop
 returns-4 c =

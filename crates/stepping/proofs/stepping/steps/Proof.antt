@@ -7,6 +7,7 @@ use Rattle.types.specs.declared.state.State.{State}
 use Rattle.state.specs.Machine.{run}
 use Rattle.state.specs.Sound.{Sound}
 use Rattle.stepping.proofs.LeftLaws.{Left, left-none, left-ended, left-next, left-sound, left-capped}
+use Rattle.table.specs.Table.{functionOf}
 use Rattle.stepping.proofs.stepping.steps.Statement.{statement}
 use Rattle.stepping.proofs.stepping.steps.Tie as tie
 
@@ -19,7 +20,7 @@ fast-steps-requires c κs =
     let p = start .pre in
     let is = c .before .core-of .ensures in (
       p .0,
-      subst (Sound (start .args .table)) (sym is) (p .1),
+      subst (Sound (functionOf (start .args .table))) (sym is) (p .1),
       omega (arith, p .2, ap (λ (x : State). x .k) is),
       p .3,
     )
@@ -40,7 +41,7 @@ left c =
     let is = c .before .before .before .core-of .ensures in
     record {
       within = fast .ensures .0;
-      machine = c .state-of .ensures ∙ fast .ensures .1 ∙ ap (run (a .table) (a .budget - fast .result .left)) is;
+      machine = c .state-of .ensures ∙ fast .ensures .1 ∙ ap (run (functionOf (a .table)) (a .budget - fast .result .left)) is;
     }
 
 returns : tie.Need-returns

@@ -4,10 +4,11 @@ use mathlib.Core.Bool.{true}
 use native.Mathlib.Omega.{arith}
 use borrow.Author.Needs.{needs}
 use lib.ListN.{replicate, getD-replicate}
-use Rattle.table.specs.Witness.{countOf}
+use Rattle.function.specs.Witness.{countOf}
 use Rattle.table.specs.Chow.{trueRows}
 use Rattle.table.proofs.TableLaws.{rows-le}
-use Rattle.table.proofs.InputLaws.{side-sum-ext}
+use Rattle.function.proofs.WitnessLaws.{side-sum-ext}
+use Rattle.table.specs.Table.{functionOf}
 use Rattle.table.proofs.chow.true_rows.Statement.{statement}
 use Rattle.table.proofs.chow.true_rows.Tie as tie
 
@@ -19,7 +20,7 @@ unfolding trueRows
 returns c =
     let t = c .before .args .table in
     c .side-sum .ensures
-    ∙ side-sum-ext t true (countOf (replicate 256 1)) (λ r. 1) (c .before .args .input)
+    ∙ side-sum-ext (functionOf t) true (countOf (replicate 256 1)) (λ r. 1) (c .before .args .input)
     (λ r h. getD-replicate 256 r 1 0 (omega (arith, rows-le (c .before .pre .0))))
 
 pub true-rows-spec : {M : Type 1} → statement M

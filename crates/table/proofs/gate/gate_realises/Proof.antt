@@ -11,14 +11,16 @@ use Rattle.numbers.proofs.TestLaws.{same-bool-beq, all-below-zero, all-below-mo
 use Rattle.types.specs.declared.table.Table.{Table}
 use Rattle.types.specs.declared.gate.Gate.{Gate}
 use Rattle.table.specs.Table.{rows, value}
-use Rattle.table.specs.Gate.{gateTrue, realises}
+use Rattle.table.specs.Gate.{realises}
+use Rattle.function.specs.Gate.{gateTrue}
 use Rattle.table.proofs.TableLaws.{rows-le}
+use Rattle.function.specs.Function.{level}
 use Rattle.table.proofs.gate.gate_realises.Statement.{statement}
 use Rattle.table.proofs.gate.gate_realises.Tie as tie
 
 -- whether gate and table agree on a row
 abbrev agrees : Table → Gate → ℕ → Bool
-agrees table gate row = sameBool (gateTrue (gate .weights) (gate .threshold) row) (value table row)
+agrees table gate row = sameBool (gateTrue (gate .weights) (gate .threshold) (level 2 row)) (value table row)
 
 -- where they differ on a row, the gate does not realise the table
 realises-fails : (t : Table) (g : Gate) (r : ℕ) → r < rows t → agrees t g r ≡ false → realises t g ≡ false

@@ -6,7 +6,8 @@ use mir.Syntax.{w32, w64}
 use mir.Val.{toZ, ofZ}
 use borrow.Author.Needs.{needs}
 use Rattle.numbers.proofs.Int.{back}
-use Rattle.table.specs.Gate.{distance}
+use Rattle.function.specs.Gate.{distance}
+use Rattle.function.specs.Function.{level}
 use Rattle.table.proofs.gate.gate_true.Statement.{statement}
 use Rattle.table.proofs.gate.gate_true.Tie as tie
 
@@ -20,7 +21,7 @@ returns c =
     ap (leZ (pos 0))
     (back w64 (c .row-distance .ok)
     ∙ c .row-distance .ensures
-    ∙ ap (λ (th : ℤ). distance (gate .weights) th (c .before .before .before .args .row)) read)
+    ∙ ap (λ (th : ℤ). distance (gate .weights) th (level 2 (c .before .before .before .args .row))) read)
 
 pub gate-true-spec : {M : Type 1} → statement M
 gate-true-spec = tie.close (tie.spec row-distance-requires returns)

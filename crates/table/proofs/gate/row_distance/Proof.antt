@@ -17,8 +17,8 @@ use Rattle.numbers.specs.Sum.{weightedSum}
 use Rattle.numbers.proofs.Int.{up, dn, one-part, parts-sub, size-add}
 use Rattle.numbers.proofs.Ring.{*ℤ-idl}
 use Rattle.numbers.proofs.SumLaws.{weighted-sum-nil, weighted-sum-suc}
-use Rattle.table.specs.Table.{level}
-use Rattle.table.specs.Gate.{distance}
+use Rattle.function.specs.Function.{level}
+use Rattle.function.specs.Gate.{distance}
 use Rattle.table.proofs.TableLaws.{level-lt}
 use Rattle.numbers.proofs.Widths.{fits-size, size-fits, wide-fits, wide-back}
 use Rattle.table.proofs.gate.row_distance.Statement.{statement}

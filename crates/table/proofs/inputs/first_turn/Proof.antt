@@ -7,15 +7,16 @@ use native.Mathlib.Omega.{arith}
 use borrow.Author.Count.{below-none, below-more}
 use borrow.Author.Needs.{needs}
 use Rattle.numbers.proofs.FirstLaws.{first-at, first-fails}
-use Rattle.table.specs.Table.{rows}
-use Rattle.table.specs.Inputs.{turnsAt, found}
+use Rattle.table.specs.Table.{rows, functionOf}
+use Rattle.table.specs.Inputs.{found}
+use Rattle.function.specs.Turns.{turnsAt}
 use Rattle.table.proofs.TableLaws.{rows-le}
-use Rattle.table.proofs.InputLaws.{first-turn-search}
+use Rattle.function.proofs.TurnLaws.{first-turn-search}
 use Rattle.table.proofs.inputs.first_turn.Statement.{statement}
 use Rattle.table.proofs.inputs.first_turn.Tie as tie
 
 abbrev Inv-loop : tie.InvT-loop
-Inv-loop table to place rows row₀ row = (row ≤ rows) × (rows ≤ 256) × ((r : ℕ) → r < row → turnsAt table to place r ≡ false)
+Inv-loop table to place rows row₀ row = (row ≤ rows) × (rows ≤ 256) × ((r : ℕ) → r < row → turnsAt (functionOf table) to place r ≡ false)
 
 abbrev μ-loop : tie.MeasureT-loop
 μ-loop table to place rows row₀ row = rows - row
@@ -33,10 +34,10 @@ returns : tie.Need-returns Inv-loop μ-loop
 returns c =
     let at-head = c .before .before .before .loop in
     let a = c .before .before .before .before .before .args in
-    let turns = turnsAt (a .table) (a .to) (a .place) in
+    let turns = turnsAt (functionOf (a .table)) (a .to) (a .place) in
     sym
     (ap found
-    (first-turn-search (a .table) (a .to) (a .place)
+    (first-turn-search (functionOf (a .table)) (a .to) (a .place)
     ∙ first-at turns (rows (a .table)) 0 (at-head .row)
     record {
       start = omega arith;
@@ -59,10 +60,10 @@ loop-again c =
 returns-2 : tie.Need-returns-2 Inv-loop μ-loop
 returns-2 c =
     let a = c .before .before .before .args in
-    let turns = turnsAt (a .table) (a .to) (a .place) in
+    let turns = turnsAt (functionOf (a .table)) (a .to) (a .place) in
     sym
     (ap found
-    (first-turn-search (a .table) (a .to) (a .place)
+    (first-turn-search (functionOf (a .table)) (a .to) (a .place)
     ∙ first-fails turns (rows (a .table)) 0 (λ r l h. c .before .loop .inv .2 r (omega arith))))
 
 pub first-turn-spec : {M : Type 1} → statement M

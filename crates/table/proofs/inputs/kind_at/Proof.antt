@@ -2,8 +2,10 @@
 use mathlib.Core.Path.{sym, _∙_, ap, ap₂}
 use mathlib.Core.Bool.{true, false}
 use borrow.Author.Needs.{needs}
-use Rattle.table.specs.Inputs.{firstTurn, isRow, kindBy}
+use Rattle.table.specs.Inputs.{isRow, kindBy}
+use Rattle.function.specs.Turns.{firstTurn}
 use Rattle.table.proofs.InputLaws.{is-row-found, kind-at-inside, kind-at-past}
+use Rattle.table.specs.Table.{functionOf}
 use Rattle.table.proofs.inputs.kind_at.Statement.{statement}
 use Rattle.table.proofs.inputs.kind_at.Tie as tie
 
@@ -34,8 +36,8 @@ returns-2 c =
     let at-rises = at-falls .before .before in
     let inside = at-rises .before .before in
     let a = inside .before .before .args in
-    let rises = firstTurn (a .table) true (a .place) in
-    let falls = firstTurn (a .table) false (a .place) in
+    let rises = firstTurn (functionOf (a .table)) true (a .place) in
+    let falls = firstTurn (functionOf (a .table)) false (a .place) in
     c .kind-by .ensures
     ∙ ap₂ kindBy
     (at-rises .is-row .ensures ∙ ap isRow (at-rises .before .first-turn .ensures) ∙ is-row-found rises)

@@ -4,7 +4,7 @@ use Prim.Native.Nat.{_+_, _*_, _%_, _^_, _<_}
 use native.Mathlib.Nat.{one-mul, mod-eq-of-lt}
 use native.Mathlib.Omega.{arith}
 use borrow.Author.Needs.{needs}
-use Rattle.table.specs.Table.{level}
+use Rattle.function.specs.Function.{level}
 use Rattle.table.proofs.TableLaws.{level-lt, partner-below}
 use Rattle.table.proofs.InputLaws.{same-bool-read, turns-at-has, turns-at-lacks}
 use Rattle.table.proofs.inputs.turns_at.Statement.{statement}

@@ -3,7 +3,8 @@ use mathlib.Core.Path.{_≡_, ap}
 use Prim.Native.Nat.{ℕ, zero, suc, _-_, _/_, _%_, _^_}
 use native.Mathlib.Omega.{arith}
 use borrow.Author.Needs.{needs}
-use Rattle.table.specs.Witness.{inputLevel}
+use Rattle.function.specs.Witness.{inputLevel}
+use Rattle.function.specs.Function.{level}
 use Rattle.table.proofs.witness.input_level.Statement.{statement}
 use Rattle.table.proofs.witness.input_level.Tie as tie
 
@@ -19,7 +20,7 @@ shr-result c = search needs
 returns-2 : tie.Need-returns-2
 returns-2 c = by (c .before .args .input) (c .if1 .left)
   where
-    by : (input : ℕ) → (input ≡ 0 → ⊥) → c .before .args .row / 2 ^ (input - 1) % 2 ≡ inputLevel (c .before .args .row) input
+    by : (input : ℕ) → (input ≡ 0 → ⊥) → c .before .args .row / 2 ^ (input - 1) % 2 ≡ inputLevel (level 2 (c .before .args .row)) input
     by zero above = absurd (omega arith)
     by (suc place) above = ap (λ (x : ℕ). c .before .args .row / 2 ^ x % 2) (omega arith)
 

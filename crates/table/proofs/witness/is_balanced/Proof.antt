@@ -9,14 +9,18 @@ use borrow.Author.Count.{below-none, below-more}
 use borrow.Author.Needs.{needs}
 use Rattle.numbers.proofs.TestLaws.{not-passed}
 use Rattle.types.specs.declared.table.Table.{Table}
-use Rattle.table.specs.Witness.{countOf, sideSum, balances}
-use Rattle.table.proofs.WitnessLaws.{side-sums-equal, balances-correct}
+use Rattle.table.specs.Witness.{balances}
+use Rattle.function.specs.Witness.{countOf, sideSum}
+use Rattle.table.proofs.OnTables.{table-balances}
+use Rattle.table.proofs.WitnessLaws.{balances-correct}
+use Rattle.function.proofs.WitnessLaws.{side-sums-equal}
+use Rattle.table.specs.Table.{functionOf}
 use Rattle.table.proofs.witness.is_balanced.Statement.{statement}
 use Rattle.table.proofs.witness.is_balanced.Tie as tie
 
 -- both sides have the same sum for an input
 abbrev Same : Table → List ℕ → ℕ → Type 0
-Same t counts i = sideSum t true (countOf counts) i ≡ sideSum t false (countOf counts) i
+Same t counts i = sideSum (functionOf t) true (countOf counts) i ≡ sideSum (functionOf t) false (countOf counts) i
 
 abbrev Inv-loop : tie.InvT-loop
 Inv-loop table counts n input₀ input = (input ≤ n + 1) × (n ≤ 8) × ((i : ℕ) → i < input → Same table counts i)
@@ -74,7 +78,7 @@ returns-3 c =
     let same = c .before .loop .inv .2 in
     sym
     (balances-correct (a .table) (a .witness) .1
-    record { total = same 0 (omega arith); above = omega (arith, above .if1 .left); inputs = λ i l h. same i (omega arith) })
+    (table-balances (a .table) (countOf (a .witness .counts)) (same 0 (omega arith)) (omega (arith, above .if1 .left)) (λ i l h. same i (omega arith))))
 
 pub is-balanced-spec : {M : Type 1} → statement M
 is-balanced-spec =

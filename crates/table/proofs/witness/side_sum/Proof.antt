@@ -12,23 +12,24 @@ use mir.Syntax.{w32}
 use mir.Val.{Fits}
 use Rattle.numbers.specs.Sum.{sumBelow}
 use Rattle.numbers.proofs.SumLaws.{sum-below-zero, sum-below-suc}
-use Rattle.table.specs.Table.{rows}
-use Rattle.table.specs.Witness.{countOf}
+use Rattle.table.specs.Table.{rows, functionOf}
+use Rattle.function.specs.Witness.{countOf}
 use Rattle.table.proofs.TableLaws.{rows-le}
-use Rattle.table.proofs.InputLaws.{same-bool-read, sideTerm, side-sum-terms, side-terms-le, count-level-le}
+use Rattle.table.proofs.InputLaws.{same-bool-read, side-terms-le, count-level-le}
+use Rattle.function.proofs.WitnessLaws.{sideTerm, side-sum-terms}
 use Rattle.table.proofs.witness.side_sum.Statement.{statement}
 use Rattle.table.proofs.witness.side_sum.Tie as tie
 
 abbrev Inv-loop : tie.InvT-loop
 Inv-loop table side input counts rows sum₀ row₀ sum row =
-    (row ≤ rows) × (rows ≤ 256) × (sum ≡ sumBelow row (sideTerm table side (countOf counts) input))
+    (row ≤ rows) × (rows ≤ 256) × (sum ≡ sumBelow row (sideTerm (functionOf table) side (countOf counts) input))
 
 abbrev μ-loop : tie.MeasureT-loop
 μ-loop table side input counts rows sum₀ row₀ sum row = rows - row
 
 -- what a row adds
 abbrev term : tie.Start Inv-loop μ-loop → ℕ → ℕ
-term s = sideTerm (s .args .table) (s .args .side) (countOf (s .args .t3)) (s .args .input)
+term s = sideTerm (functionOf (s .args .table)) (s .args .side) (countOf (s .args .t3)) (s .args .input)
 
 row-count-requires : tie.Need-row-count-requires Inv-loop μ-loop
 row-count-requires c κs = search needs
@@ -98,7 +99,7 @@ returns c =
     let all : c .before .loop .row ≡ rows (a .table) = omega arith in
     c .before .loop .inv .2
     ∙ ap (λ (m : ℕ). sumBelow m (term start)) all
-    ∙ sym (side-sum-terms (a .table) (a .side) (countOf (a .t3)) (a .input))
+    ∙ sym (side-sum-terms (functionOf (a .table)) (a .side) (countOf (a .t3)) (a .input))
 
 pub side-sum-spec : {M : Type 1} → statement M
 side-sum-spec =

@@ -1,6 +1,6 @@
 -- `jobs::threshold_carry_on` meets its contract: what was read is a job, the job after the carry-on keeps its rules, and what it has
 -- come to is written. Assumes nothing.
-use mathlib.Core.Path.{_≡_, sym, _∙_, ap}
+use mathlib.Core.Path.{_≡_, _∙_, ap}
 use mathlib.Core.List.{List}
 use Prim.Native.Nat.{ℕ}
 use lib.ListN.{length}

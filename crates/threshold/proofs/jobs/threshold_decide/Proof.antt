@@ -1,6 +1,6 @@
 -- `jobs::threshold_decide` meets its contract: what was read is a table that keeps its format, its job after one carry-on keeps its rules,
 -- and what it has come to is written. Assumes nothing.
-use mathlib.Core.Path.{sym, _∙_, subst}
+use mathlib.Core.Path.{_≡_, sym, _∙_, ap, subst}
 use mathlib.Core.List.{List, []}
 use Prim.Native.Nat.{ℕ}
 use native.Mathlib.Omega.{arith}
@@ -12,8 +12,10 @@ use Rattle.types.specs.declared.table.Table.{Table}
 use Rattle.cell.specs.Refusal.{Answered, NoneBroken}
 use Rattle.cell.specs.Calls.{tableRules}
 use Rattle.job.specs.declared.job.Job.{Job}
+use Rattle.job.specs.declared.job.Started.{Started}
 use Rattle.job.specs.Machine.{run, fresh}
-use Rattle.job.specs.Calls.{callBudget, jobRules}
+use Rattle.job.specs.Calls.{callBudget, started, jobRules}
+use Rattle.job.proofs.DecidedLaws.{decided-answered}
 use Rattle.threshold.specs.Result.{Handed}
 use Rattle.threshold.specs.Interface.{handedBack}
 use Rattle.threshold.proofs.ResultLaws.{handed-as, handed-refused}
@@ -58,14 +60,20 @@ module _ (c : tie.After-enum-told) where
       table-taken bytes (c .before .before .read .ensures)
       (λ i h. omega (arith, c .before .before .before .before .shared-slice-known .given i)) (c .enum-told .given .1)
 
-decided-job-requires : tie.Need-decided-job-requires
-decided-job-requires c κs = kept c
+decided-requires : tie.Need-decided-requires
+decided-requires c κs = search needs
+
+-- the job that is written
+job-is : (c : tie.After-decided) → c .decided .result .job ≡ run callBudget (fresh (table (c .before)))
+job-is c =
+    let t = table (c .before) in
+    ap (λ (x : Started). x .job) (c .decided .ensures) ∙ ap (λ (a : Answered Job). started t a .job) (decided-answered t (kept (c .before)))
 
 put-outcome-requires : tie.Need-put-outcome-requires
 put-outcome-requires c κs =
     let decided = c .before .before in
     let told = decided .before in
-    subst (λ (j : Job). NoneBroken (jobRules j [])) (sym (decided .decided-job .ensures)) (decided-kept (table told) (kept told))
+    subst (λ (j : Job). NoneBroken (jobRules j [])) (sym (job-is decided)) (decided-kept (table told) (kept told))
 
 same-length : tie.Need-same-length
 same-length c = search needs
@@ -79,7 +87,7 @@ returns-2 c =
     let room = length (a .out .now) in
     let whole = with-table (bytes told) (told .before .before .read .ensures) (told .enum-told .given .1) (after room) in
     let (r, b, made) = wrote .put-outcome .ensures in
-    handed-as (a .out .now) (a .made .now) (decided-handed (table told) room (decided .decided-job .ensures) ∙ whole)
+    handed-as (a .out .now) (a .made .now) (decided-handed (table told) room (job-is decided) ∙ whole)
     (back w64 (wrote .put-outcome .ok) ∙ r, b, made)
 
 pub threshold-decide-spec : {M : Type 1} → statement M
@@ -90,7 +98,7 @@ threshold-decide-spec =
     enum-told
     not-taken-requires
     returns
-    decided-job-requires
+    decided-requires
     put-outcome-requires
     same-length
     returns-2)

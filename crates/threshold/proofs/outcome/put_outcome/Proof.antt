@@ -14,9 +14,9 @@ use Rattle.numbers.proofs.Int.{back}
 use Rattle.numbers.proofs.Widths.{size-fits}
 use Rattle.cell.specs.Refusal.{Answered}
 use Rattle.cell.proofs.TableChecked.{kept-inputs}
-use Rattle.records.specs.declared.write.Written.the-variants as Written′
+use Rattle.writers.specs.declared.write.Written.the-variants as Written′
 use Rattle.records.specs.Record.{recordBytes}
-use Rattle.records.specs.Calls.{written}
+use Rattle.writers.specs.Calls.{written}
 use Rattle.threshold.specs.Result.{asResult, measured}
 use Rattle.threshold.specs.Interface.{outcome, outcomeWritten}
 use Rattle.threshold.proofs.ResultLaws.{written-refused, written-length, fitted-length, handed-with, made-handed, made-held}

@@ -8,7 +8,7 @@ use Rattle.types.specs.declared.gate.Gate.{Gate}
 use Rattle.types.specs.declared.witness.Witness.{Witness}
 use Rattle.job.specs.declared.job.Job.{Job}
 use Rattle.records.specs.Record.{ofGate, ofWitness}
-use Rattle.records.specs.Calls.{writeRecord}
+use Rattle.writers.specs.Calls.{writeRecord}
 use Rattle.threshold.proofs.ResultLaws.{wrote-as}
 use Rattle.threshold.proofs.OutcomeLaws.{open-written, found-written, looped-written, binate-written}
 use Rattle.threshold.proofs.outcome.write_outcome.Statement.{statement}

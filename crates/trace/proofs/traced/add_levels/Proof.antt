@@ -10,13 +10,14 @@ use lib.Seq.{drop-cons, getD-at}
 use lib.Pow.{shr-shr}
 use Rattle.numbers.specs.Tabulate.{tabulate}
 use Rattle.numbers.proofs.TabulateLaws.{filled, length-tabulate, filled-none, filled-more, filled-all}
-use Rattle.table.specs.Witness.{inputLevel}
+use Rattle.function.specs.Witness.{inputLevel}
 use Rattle.table.proofs.InputLaws.{count-level-le}
+use Rattle.function.specs.Function.{level}
 use Rattle.trace.proofs.traced.add_levels.Statement.{statement}
 use Rattle.trace.proofs.traced.add_levels.Tie as tie
 
 -- bit i of 2 row + 1 is the level of input i
-level-bit : (row i : ℕ) → (2 * row + 1) / 2 ^ i % 2 ≡ inputLevel row i
+level-bit : (row i : ℕ) → (2 * row + 1) / 2 ^ i % 2 ≡ inputLevel (level 2 row) i
 level-bit row zero = omega arith
 level-bit row (suc place) =
     let half : (2 * row + 1) / 2 ≡ row = omega arith in
@@ -30,7 +31,7 @@ getD-filled f old i h =
 
 -- a sum with what the row adds
 abbrev sumWith : List ℕ → ℕ → ℕ → ℕ → ℕ
-sumWith sums row count i = getD sums i 0 + count * inputLevel row i
+sumWith sums row count i = getD sums i 0 + count * inputLevel (level 2 row) i
 
 abbrev Inv-loop : tie.InvT-loop
 Inv-loop sums₀ row count levels input₀ sums input = (input ≤ 9) × (sums ≡ filled (sumWith sums₀ row count) sums₀ input)

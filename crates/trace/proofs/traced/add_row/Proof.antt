@@ -11,22 +11,23 @@ use Rattle.numbers.specs.Tests.{sameBool}
 use Rattle.numbers.specs.Tabulate.{tabulate}
 use Rattle.numbers.proofs.TabulateLaws.{tabulate-getD}
 use Rattle.table.specs.Table.{value}
-use Rattle.table.specs.Witness.{inputLevel, onlyIf}
+use Rattle.function.specs.Witness.{inputLevel, onlyIf}
 use Rattle.table.proofs.InputLaws.{same-bool-read}
+use Rattle.function.specs.Function.{level}
 use Rattle.trace.proofs.traced.add_row.Statement.{statement}
 use Rattle.trace.proofs.traced.add_row.Tie as tie
 
 -- the sums with what a row adds, by whether it is of the side
 abbrev sumsWith : List ℕ → Bool → ℕ → ℕ → List ℕ
-sumsWith sums of row count = tabulate 9 (λ i. getD sums i 0 + onlyIf of (count * inputLevel row i))
+sumsWith sums of row count = tabulate 9 (λ i. getD sums i 0 + onlyIf of (count * inputLevel (level 2 row) i))
 
 -- a row that adds nothing leaves the sums as they are
-sums-kept : (sums : List ℕ) (of : Bool) (row count : ℕ) → length sums ≡ 9 → ((i : ℕ) → onlyIf of (count * inputLevel row i) ≡ 0)
+sums-kept : (sums : List ℕ) (of : Bool) (row count : ℕ) → length sums ≡ 9 → ((i : ℕ) → onlyIf of (count * inputLevel (level 2 row) i) ≡ 0)
     → sums ≡ sumsWith sums of row count
 sums-kept sums of row count n h = tabulate-getD _ 9 0 sums n (λ i l. omega (arith, h i))
 
 -- a row without a count adds nothing
-no-count : (of : Bool) (row i : ℕ) → onlyIf of (0 * inputLevel row i) ≡ 0
+no-count : (of : Bool) (row i : ℕ) → onlyIf of (0 * inputLevel (level 2 row) i) ≡ 0
 no-count true row i = omega arith
 no-count false row i = omega arith
 

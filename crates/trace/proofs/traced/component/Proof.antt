@@ -11,7 +11,7 @@ use mir.Facts.{toZ-ofZ}
 use borrow.Author.Needs.{needs}
 use Rattle.numbers.proofs.Int.{parts-neg}
 use Rattle.numbers.proofs.Widths.{fits-size, size-fits, wide-fits, wide-back}
-use Rattle.machine.specs.Vector.{component}
+use Rattle.function.specs.Vector.{component}
 use Rattle.trace.proofs.traced.component.Statement.{statement}
 use Rattle.trace.proofs.traced.component.Tie as tie
 

@@ -4,7 +4,6 @@ use mathlib.Core.Path.{_≡_, sym, _∙_, ap, ap₂}
 use mathlib.Core.Bool.{Bool, true, false, _&&_, and-false}
 use mathlib.Core.List.{List}
 use Prim.Native.Nat.{ℕ, suc, _+_, _-_, _^_, _≤_, _<_}
-use native.Mathlib.Numerals.{add-one}
 use native.Mathlib.Omega.{arith}
 use lib.Dec.{eqb}
 use lib.ListN.{getD}
@@ -17,10 +16,11 @@ use Rattle.numbers.specs.Tests.{allBelow}
 use Rattle.numbers.specs.Tabulate.{tabulate}
 use Rattle.numbers.proofs.TestLaws.{and-both, all-below-zero, all-below-more, all-below-fails, all-below-cong}
 use Rattle.numbers.proofs.TabulateLaws.{getD-tabulate}
-use Rattle.table.specs.Witness.{sideSum, countOf}
+use Rattle.function.specs.Witness.{sideSum, countOf}
 use Rattle.types.specs.declared.vector.Vector.{Vector}
-use Rattle.machine.specs.Vector.{sameZ, component}
+use Rattle.function.specs.Vector.{sameZ, component}
 use Rattle.trace.proofs.SizeLaws.{side-sum-lt}
+use Rattle.table.specs.Table.{functionOf}
 use Rattle.trace.proofs.traced.is_traced.Statement.{statement}
 use Rattle.trace.proofs.traced.is_traced.Tie as tie
 
@@ -50,7 +50,7 @@ side-sums-requires-2 c κs = search needs
 
 -- the sum of a side at an input, of what was handed in
 abbrev sumOf : tie.Start Inv-loop μ-loop → Bool → ℕ → ℕ
-sumOf c side = sideSum (c .args .table) side (countOf (c .args .counts))
+sumOf c side = sideSum (functionOf (c .args .table)) side (countOf (c .args .counts))
 
 -- it is below 2^40
 sum-lt : (c : tie.Start Inv-loop μ-loop) (side : Bool) (i : ℕ) → sumOf c side i < 2 ^ 40

@@ -15,24 +15,25 @@ use Rattle.numbers.specs.Tabulate.{tabulate}
 use Rattle.numbers.proofs.SumLaws.{sum-below-zero, sum-below-suc}
 use Rattle.numbers.proofs.TabulateLaws.{length-tabulate, getD-tabulate, tabulate-getD, tabulate-ext}
 use Rattle.types.specs.declared.table.Table.{Table}
-use Rattle.table.specs.Table.{rows}
-use Rattle.table.specs.Witness.{countOf}
+use Rattle.table.specs.Table.{rows, functionOf}
+use Rattle.function.specs.Witness.{countOf}
 use Rattle.table.proofs.TableLaws.{rows-le}
-use Rattle.table.proofs.InputLaws.{sideTerm, side-sum-terms, side-terms-le}
+use Rattle.table.proofs.InputLaws.{side-terms-le}
+use Rattle.function.proofs.WitnessLaws.{sideTerm, side-sum-terms}
 use Rattle.trace.proofs.traced.side_sums.Statement.{statement}
 use Rattle.trace.proofs.traced.side_sums.Tie as tie
 
 -- what the rows below m add to the sum of an input
 abbrev sumTo : Table → Bool → List ℕ → ℕ → ℕ → ℕ
-sumTo t side counts m i = sumBelow m (sideTerm t side (countOf counts) i)
+sumTo t side counts m i = sumBelow m (sideTerm (functionOf t) side (countOf counts) i)
 
 -- with what row m adds they are what the rows below m + 1 add
 row-added : (t : Table) (side : Bool) (counts : List ℕ) (m : ℕ) (sums : List ℕ) {next : List ℕ}
-    → next ≡ tabulate 9 (λ i. getD sums i 0 + sideTerm t side (countOf counts) i m)
+    → next ≡ tabulate 9 (λ i. getD sums i 0 + sideTerm (functionOf t) side (countOf counts) i m)
     → ((i : ℕ) → i < 9 → getD sums i 0 ≡ sumTo t side counts m i)
     → next ≡ tabulate 9 (sumTo t side counts (m + 1))
 row-added t side counts m sums e is =
-    let term : ℕ → ℕ = λ i. sideTerm t side (countOf counts) i m in
+    let term : ℕ → ℕ = λ i. sideTerm (functionOf t) side (countOf counts) i m in
     e
     ∙ tabulate-ext (λ i. getD sums i 0 + term i) (sumTo t side counts (m + 1)) 9
     (λ i h. rw (add-one, sum-below-suc) (ap (λ (x : ℕ). x + term i) (is i h)))
@@ -102,7 +103,7 @@ returns c =
     let all : c .before .loop .row ≡ rows (a .table) = omega arith in
     c .before .loop .inv .2
     ∙ tabulate-ext _ _ 9
-    (λ i h. ap (λ (m : ℕ). sumTo (a .table) (a .side) (a .t3) m i) all ∙ sym (side-sum-terms (a .table) (a .side) (countOf (a .t3)) i))
+    (λ i h. ap (λ (m : ℕ). sumTo (a .table) (a .side) (a .t3) m i) all ∙ sym (side-sum-terms (functionOf (a .table)) (a .side) (countOf (a .t3)) i))
 
 pub side-sums-spec : {M : Type 1} → statement M
 side-sums-spec =

@@ -6,13 +6,13 @@ use Prim.Native.Nat.{ℕ, _≤_, _<_}
 use native.Mathlib.Omega.{arith}
 use borrow.Author.Needs.{needs}
 use borrow.Author.Tests.{lt-ltb, le-ltb}
-use Rattle.table.specs.Table.{rowsOf}
+use Rattle.table.specs.Table.{rowsOf, functionOf}
 use Rattle.table.proofs.TableLaws.{rows-le}
 use Rattle.cell.specs.Refusal.{Rule, Answered, answered, checked}
 use Rattle.cell.specs.Calls.{pastRows}
 use Rattle.cell.specs.Answers.{answer, answerOf}
 use Rattle.cell.proofs.RefusalLaws.{rule-broken, rule-kept}
-use Rattle.machine.specs.Failing.{fails}
+use Rattle.function.specs.Failing.{fails}
 use Rattle.job.specs.declared.job.Job.{Job}
 use Rattle.view.specs.Calls.{rowFails}
 use Rattle.job.proofs.JobChecked.{job-refused, job-passed, job-inputs}
@@ -23,7 +23,7 @@ abbrev others : Job → ℕ → List Rule
 others j r = pastRows (j .table .n) r ∷ []
 
 abbrev verdict : Job → ℕ → Answered Bool
-verdict j r = answered (fails (j .table) (j .v) r)
+verdict j r = answered (fails (functionOf (j .table)) (j .v) r)
 
 job-status-requires : tie.Need-job-status-requires
 job-status-requires c κs = search needs

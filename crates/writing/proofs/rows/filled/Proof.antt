@@ -11,7 +11,7 @@ use native.Mathlib.Omega.{arith}
 use lib.Dec.{ltb}
 use borrow.Author.Needs.{needs}
 use borrow.Author.Tests.{lt-ltb, le-ltb}
-use Rattle.table.specs.Witness.{onlyIf, countOf}
+use Rattle.function.specs.Witness.{onlyIf, countOf}
 use Rattle.codec.specs.RowList.{filledFrom}
 use Rattle.codec.proofs.PairLaws.{filled-zero, filled-snoc, filled-most}
 use Rattle.writing.proofs.rows.filled.Statement.{statement}

@@ -5,7 +5,7 @@ use Prim.Native.Nat.{_+_, _-_, _≤_}
 use native.Mathlib.Omega.{arith}
 use lib.ListN.{length, length-append}
 use borrow.Author.Needs.{needs}
-use Rattle.table.specs.Witness.{countOf}
+use Rattle.function.specs.Witness.{countOf}
 use Rattle.codec.proofs.NumberLaws.{number-length}
 use Rattle.codec.proofs.PairLaws.{pairs-zero, row-list-bytes}
 use Rattle.writing.proofs.RowParts.{pair-most, pairs, pairOf, pairs-next, pairs-most}

@@ -24,6 +24,7 @@ use Rattle.job.specs.Sound.{cap}
 use Rattle.job.specs.Calls.{callBudget, budgetRange, pastCap, ifOpen, carryOn, carried}
 use Rattle.job.proofs.Soundness.{run-grows}
 use Rattle.job.proofs.JobChecked.{job-refused, job-passed, job-inputs, job-sound, if-open-ended}
+use Rattle.table.specs.Table.{functionOf}
 use Rattle.job.proofs.job.Job.carry_on.Statement.{statement}
 use Rattle.job.proofs.job.Job.carry_on.Tie as tie
 
@@ -152,7 +153,7 @@ steps-requires c κs =
     let says = told at .before .before .job-status .ensures in
     let done = told at .enum-told .given .1 in (
       job-inputs j says done,
-      subst (state.Sound (j .table)) (sym is) (job-sound j says done),
+      subst (state.Sound (functionOf (j .table))) (sym is) (job-sound j says done),
       omega (arith, capped left, ap (λ (x : State). x .k) is),
       c .before .before .step-table .ensures,
     )
@@ -170,7 +171,7 @@ machine c =
     let at = told (stepped c .before .before) in
     let t = self at .table in
     let is = c .before .before .before .state-of .ensures in
-    c .job-of .ensures ∙ ap (jobOf t) (c .before .steps .ensures ∙ ap (state-machine.run t (budget at)) is)
+    c .job-of .ensures ∙ ap (jobOf t) (c .before .steps .ensures ∙ ap (state-machine.run (functionOf t) (budget at)) is)
 
 sub-made : tie.Need-sub-made
 sub-made c =

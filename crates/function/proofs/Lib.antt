@@ -1,0 +1,9 @@
+pub mod FunctionLaws
+pub mod GateLaws
+pub mod CountLaws
+pub mod WitnessLaws
+pub mod Summability
+pub mod TurnLaws
+pub mod VectorLaws
+pub mod FailingLaws
+pub mod BinateLaws

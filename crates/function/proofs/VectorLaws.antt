@@ -1,0 +1,117 @@
+-- Laws of vectors: the test that two are equal, and what a correction by a row's levels adds at each place. Assumes nothing.
+use mathlib.Core.Path.{_≡_, refl, _∙_, ap, ap₂}
+use mathlib.Core.Logic.{_≢_, _↔_}
+use mathlib.Core.Bool.{Bool, true, false}
+use mathlib.Core.List.{List, [], _∷_}
+use Prim.Native.Nat.{ℕ, zero, suc, _≤_, _<_}
+use native.Mathlib.Omega.{arith}
+use lib.ListN.{length, getD}
+use lib.Seq.{ext-getD}
+use lib.IntN.{ℤ, pos, negsuc, negℤ, _+ℤ_, _-ℤ_, _*ℤ_, *ℤ-comm}
+use lib.Signed.{leZ}
+use Rattle.numbers.specs.Tabulate.{tabulate}
+use Rattle.numbers.proofs.Int.{integers, parts-sub, parts-neg, parts-add}
+use Rattle.numbers.proofs.TestLaws.{and-left, and-right, and-both, not-passed, no-true}
+use Rattle.numbers.proofs.TabulateLaws.{tabulate-getD}
+use Rattle.types.specs.declared.vector.Vector.{Vector}
+use Rattle.function.specs.Witness.{inputLevel}
+use Rattle.function.specs.Vector.{sign, addLevels, correctedBy, sameZ, sameList, sameVector, component}
+
+-- ---- equal vectors
+
+-- the test of two integers passes exactly if they are equal
+pub same-z-correct : (x y : ℤ) → sameZ x y ≡ true ↔ x ≡ y
+same-z-correct x y = (
+  λ e. (let l = and-left (leZ x y) (leZ y x) e in let g = and-right (leZ x y) (leZ y x) e in omega integers),
+  λ e. and-both {a = leZ x y} {b = leZ y x} (omega integers) (omega integers),
+)
+
+same-list-eq : (xs ys : List ℤ) → sameList xs ys ≡ true → xs ≡ ys
+unfolding sameList
+same-list-eq [] [] e = refl
+same-list-eq [] (y ∷ ys) e = absurd (no-true e)
+same-list-eq (x ∷ xs) [] e = absurd (no-true e)
+same-list-eq (x ∷ xs) (y ∷ ys) e =
+    ap₂ _∷_ (same-z-correct x y .0 (and-left (sameZ x y) (sameList xs ys) e)) (same-list-eq xs ys (and-right (sameZ x y) (sameList xs ys) e))
+
+same-list-refl : (xs : List ℤ) → sameList xs xs ≡ true
+unfolding sameList
+same-list-refl [] = refl
+same-list-refl (x ∷ xs) = and-both (same-z-correct x x .1 refl) (same-list-refl xs)
+
+-- the test of two lists passes exactly if they are equal
+pub same-list-correct : (xs ys : List ℤ) → sameList xs ys ≡ true ↔ xs ≡ ys
+same-list-correct xs ys = (same-list-eq xs ys, λ e. rw (← e) (same-list-refl xs))
+
+-- it passes where two lists of one length agree at each place, and fails where they differ at one
+pub same-list-from : (xs ys : List ℤ) → length xs ≡ length ys → ((i : ℕ) → i < length xs → getD xs i (pos 0) ≡ getD ys i (pos 0))
+    → sameList xs ys ≡ true
+same-list-from xs ys n h = same-list-correct xs ys .1 (ext-getD (pos 0) xs ys n h)
+
+pub same-list-fails : (xs ys : List ℤ) (i : ℕ) → getD xs i (pos 0) ≢ getD ys i (pos 0) → sameList xs ys ≡ false
+same-list-fails xs ys i n = not-passed (sameList xs ys) (λ e. n (ap (λ (l : List ℤ). getD l i (pos 0)) (same-list-correct xs ys .0 e)))
+
+-- vectors of equal parts are equal
+pub vector-eq : (v s : Vector) → v .a ≡ s .a → v .b ≡ s .b → v ≡ s
+vector-eq v s p q = λ i. record { a = p i; b = q i }
+
+-- the test of two vectors passes exactly if they are equal
+pub same-vector-correct : (v s : Vector) → sameVector v s ≡ true ↔ v ≡ s
+unfolding sameVector
+same-vector-correct v s =
+    let weights = same-list-correct (v .a) (s .a) in
+    let threshold = same-z-correct (v .b) (s .b) in (
+      λ e. vector-eq v s (weights .0 (and-right (sameZ (v .b) (s .b)) _ e)) (threshold .0 (and-left (sameZ (v .b) (s .b)) _ e)),
+      λ e. and-both (threshold .1 (ap (λ (u : Vector). u .b) e)) (weights .1 (ap (λ (u : Vector). u .a) e)),
+    )
+
+-- ---- what a correction adds
+
+module _ (z : ℤ) where
+  -- there are as many places as before
+  pub length-add-levels : (l : ℕ → ℕ) (xs : List ℤ) → length (addLevels z l xs) ≡ length xs
+  unfolding addLevels
+  length-add-levels l [] = refl
+  length-add-levels l (x ∷ xs) = ap suc (length-add-levels (λ place. l (suc place)) xs)
+
+  -- each place is added z times its level
+  pub getD-add-levels : (l : ℕ → ℕ) (xs : List ℤ) (place : ℕ) → place < length xs
+      → getD (addLevels z l xs) place (pos 0) ≡ getD xs place (pos 0) +ℤ pos (l place) *ℤ z
+  unfolding addLevels
+  getD-add-levels l [] place h = absurd (omega arith)
+  getD-add-levels l (x ∷ xs) zero h = refl
+  getD-add-levels l (x ∷ xs) (suc place) h = getD-add-levels (λ p. l (suc p)) xs place (omega arith)
+
+  -- the places after the correction, one after the other
+  pub add-levels-tabulate : (l : ℕ → ℕ) (xs : List ℤ)
+      → addLevels z l xs ≡ tabulate (length xs) (λ place. getD xs place (pos 0) +ℤ pos (l place) *ℤ z)
+  add-levels-tabulate l xs =
+      tabulate-getD (λ place. getD xs place (pos 0) +ℤ pos (l place) *ℤ z) (length xs) (pos 0) (addLevels z l xs)
+      (length-add-levels l xs)
+      (getD-add-levels l xs)
+
+-- what a correction makes of the weights, and of the threshold
+pub corrected-weights : (y : Bool) (l : ℕ → ℕ) (v : Vector) → (correctedBy y l v) .a ≡ addLevels (sign y) l (v .a)
+unfolding correctedBy
+corrected-weights y l v = refl
+
+pub corrected-threshold : (y : Bool) (l : ℕ → ℕ) (v : Vector) → (correctedBy y l v) .b ≡ v .b -ℤ sign y
+unfolding correctedBy
+corrected-threshold y l v = refl
+
+-- there are as many weights as before
+pub length-corrected : (y : Bool) (l : ℕ → ℕ) (v : Vector) → length ((correctedBy y l v) .a) ≡ length (v .a)
+length-corrected y l v = ap length (corrected-weights y l v) ∙ length-add-levels (sign y) l (v .a)
+
+threshold-less : (b : ℤ) (y : Bool) → negℤ (b -ℤ sign y) ≡ negℤ b +ℤ sign y *ℤ pos 1
+threshold-less b true = omega (integers, parts-neg (b -ℤ pos 1), parts-sub b (pos 1), parts-neg b, parts-add (negℤ b) (pos 1))
+threshold-less b false = omega (integers, parts-neg (b -ℤ negsuc 0), parts-sub b (negsuc 0), parts-neg b, parts-add (negℤ b) (negsuc 0))
+
+-- a component is added the row's sign times the level of its input
+pub component-corrected : (y : Bool) (l : ℕ → ℕ) (v : Vector) (i : ℕ) → i ≤ length (v .a)
+    → component (correctedBy y l v) i ≡ component v i +ℤ sign y *ℤ pos (inputLevel l i)
+component-corrected y l v zero h = ap negℤ (corrected-threshold y l v) ∙ threshold-less (v .b) y
+component-corrected y l v (suc place) h =
+    ap (λ (l : List ℤ). getD l place (pos 0)) (corrected-weights y l v)
+    ∙ getD-add-levels (sign y) l (v .a) place h
+    ∙ ap (λ (x : ℤ). getD (v .a) place (pos 0) +ℤ x) (*ℤ-comm (pos (l place)) (sign y))

@@ -1,0 +1,39 @@
+-- The bytes of an open job's record: how many there are, and as they are written, field after field. Assumes nothing.
+use mathlib.Core.Path.{_≡_}
+use mathlib.Core.List.{List, _++_, append-assoc}
+use Prim.Native.Nat.{ℕ, _+_}
+use native.Mathlib.Omega.{arith}
+use lib.ListN.{length, length-append}
+use Rattle.job.specs.declared.job.Job.{Job}
+use Rattle.codec.specs.Number.{numberBytes}
+use Rattle.codec.specs.VectorField.{vectorBytes}
+use Rattle.codec.specs.RowList.{rowListBytes}
+use Rattle.codec.specs.Head.{headBytes}
+use Rattle.records.specs.Record.{ofJob, recordBytes}
+
+-- K, v and s
+abbrev pub numbers : Job → List ℕ
+numbers j = (numberBytes (j .k) ++ vectorBytes (j .table .n) (j .v)) ++ vectorBytes (j .table .n) (j .s)
+
+-- the head, then K, v and s, then the row list
+abbrev pub fields : Job → List ℕ
+fields j = (headBytes 4 (j .table) ++ numbers j) ++ rowListBytes (j .counts)
+
+-- the record is its fields
+pub job-parts : (j : Job) → recordBytes (ofJob j) ≡ fields j
+unfolding recordBytes
+job-parts j = simp append-assoc
+
+-- their lengths added up
+pub job-count : (j : Job)
+    → length (fields j)
+    ≡ length (headBytes 4 (j .table)) + length (numberBytes (j .k)) + (length (vectorBytes (j .table .n) (j .v)) + length (vectorBytes (j .table .n) (j .s))) + length (rowListBytes (j .counts))
+job-count j =
+    let n = j .table .n in
+    omega (
+      arith,
+      length-append (headBytes 4 (j .table) ++ numbers j) (rowListBytes (j .counts)),
+      length-append (headBytes 4 (j .table)) (numbers j),
+      length-append (numberBytes (j .k) ++ vectorBytes n (j .v)) (vectorBytes n (j .s)),
+      length-append (numberBytes (j .k)) (vectorBytes n (j .v)),
+    )

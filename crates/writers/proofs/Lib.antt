@@ -1,0 +1,5 @@
+pub mod RecordParts
+pub mod ReadBack
+pub mod WriteBack
+pub mod WriteLaws
+pub mod JobBytes

@@ -1,0 +1,158 @@
+-- Writing what was read gives the same bytes, kinds 1 to 4. Assumes nothing.
+use mathlib.Core.Path.{_≡_, refl, sym, _∙_, ap, ap₂, subst}
+use mathlib.Core.Bool.{true, false, not, _&&_}
+use mathlib.Core.List.{List, [], _∷_, _++_}
+use Prim.Native.Nat.{ℕ, zero, suc, _+_, _≤_}
+use native.Mathlib.Omega.{arith}
+use lib.Dec.{ltb}
+use lib.ListN.{length, drop}
+use borrow.Author.Tests.{le-ltb, ltb-false, not-false, eq-eqb}
+use Rattle.numbers.specs.Tests.{allAtMost}
+use Rattle.numbers.proofs.TestLaws.{and-left, and-right}
+use Rattle.types.specs.declared.table.Table.{Table}
+use Rattle.table.specs.Table.{rows}
+use Rattle.table.specs.Witness.{unfit, countLimit}
+use Rattle.table.proofs.TableLaws.{rows-le}
+use Rattle.cell.specs.Refusal.{Rule, answered, checked, NoneBroken, none, also}
+use Rattle.cell.specs.Calls.{tableRules}
+use Rattle.cell.proofs.RefusalLaws.{none-broken-answered}
+use Rattle.cell.proofs.TableChecked.{kept-inputs, all-kept}
+use Rattle.types.specs.declared.vector.Vector.{Vector}
+use Rattle.job.specs.Sound.{isSound}
+use Rattle.job.proofs.JobChecked.{job-all-kept}
+use Rattle.codec.specs.Field.{Field, field}
+use Rattle.codec.specs.Number.{numberBytes, numberAt}
+use Rattle.codec.specs.VectorField.{vectorBytes, vectorAt}
+use Rattle.codec.specs.RowList.{RowList, rowListBytes, rowListAt}
+use Rattle.codec.specs.Head.{Head, headBytes, headAt}
+use Rattle.codec.proofs.FieldLaws.{onward-answered, checked-answered}
+use Rattle.codec.proofs.StandsLaws.{Stands, stands-nil, both-stand, stands-whole, AllBytes}
+use Rattle.codec.proofs.NumberLaws.{number-written}
+use Rattle.codec.proofs.VectorFieldLaws.{vector-written}
+use Rattle.codec.proofs.RowListWritten.{rows-written, strict-kept}
+use Rattle.codec.proofs.HeadLaws.{HeadRead, head-written}
+use Rattle.records.specs.Record.{Record, ofTable, ofGate, ofWitness, ofJob, vectorGate, recordBytes, gateAt, witnessAt, openJob, unsoundJob, jobAt, bodyAt, recordAt, readRecord}
+use Rattle.writers.specs.Calls.{tooShort, recordRules, writeRecord}
+use Rattle.writers.proofs.RecordParts.{kindOf, tableIn, bodyBytes, head-and-body, fit-from}
+
+-- ---- write after read
+
+-- what reading a body says: the record's kind and table are the head's, its bytes stand there, and it keeps a writer's rules
+record BodyRead (kind : ℕ) (t : Table) (s : List ℕ) (at : ℕ) (b : Field Record) : Type 0 where
+  same-kind : kindOf (b .value) ≡ kind
+  same-table : tableIn (b .value) ≡ t
+  stands : Stands s at (bodyBytes (b .value))
+  next : b .next ≡ at + length (bodyBytes (b .value))
+  rules : (others : List Rule) → NoneBroken others → NoneBroken (recordRules (b .value) others)
+
+module _ (t : Table) (s : List ℕ) (bytes : AllBytes s) (taken : NoneBroken (tableRules t [])) where
+  table-body : (at : ℕ) (b : Field Record) → answered (field (ofTable t) at) ≡ answered b → BodyRead 1 t s at b
+  unfolding kindOf tableIn bodyBytes
+  table-body at b e =
+      let same : field (ofTable t) at ≡ b = cc in
+      subst (BodyRead 1 t s at) same (record { same-kind = refl; same-table = refl; stands = stands-nil s at; next = omega arith; rules = λ others kept. all-kept t taken kept })
+
+  gate-body : (at : ℕ) (b : Field Record) → gateAt t s at ≡ answered b → BodyRead 2 t s at b
+  unfolding kindOf tableIn bodyBytes
+  gate-body at b e =
+      let parts = onward-answered (vectorAt true (t .n) s at) _ b e in
+      let f = parts .0 in
+      let read = vector-written true (t .n) s at f (kept-inputs t taken) bytes (parts .1) in
+      let same : field (ofGate t (vectorGate (t .n) (f .value))) (f .next) ≡ b = cc in
+      subst (BodyRead 2 t s at) same (record {
+        same-kind = refl;
+        same-table = refl;
+        stands = read .stands;
+        next = read .next;
+        rules = λ others kept. also (ap not (eq-eqb (t .n) (t .n) refl)) (all-kept t taken (also (ap not (read .ranged refl)) kept));
+      })
+
+  witness-body : (at : ℕ) (b : Field Record) → witnessAt t s at ≡ answered b → BodyRead 3 t s at b
+  unfolding kindOf tableIn bodyBytes unfit
+  witness-body at b e =
+      let parts = onward-answered (rowListAt true (rows t) s at) _ b e in
+      let f = parts .0 in
+      let read = rows-written true (rows t) s at f (rows-le (kept-inputs t taken)) bytes (parts .1) (strict-kept (rows t) s at f (parts .1)) in
+      let same : field (ofWitness t (record { counts = f .value .counts })) (f .next) ≡ b = cc in
+      subst (BodyRead 3 t s at) same (record {
+        same-kind = refl;
+        same-table = refl;
+        stands = read .stands;
+        next = read .next;
+        rules = λ others kept. all-kept t taken (also (fit-from (allAtMost 0 (f .value .counts)) (allAtMost countLimit (f .value .counts)) (allAtMost 0 (drop (rows t) (f .value .counts))) (read .some refl) (read .limit) (read .past)) kept);
+      })
+
+  -- the fields of a job's record
+  job-fields : (at : ℕ) (k : Field ℕ) (v w : Field Vector) (list : Field RowList) → numberAt s at ≡ answered k → vectorAt false (t .n) s (k .next) ≡ answered v
+      → vectorAt false (t .n) s (v .next) ≡ answered w → rowListAt false (rows t) s (w .next) ≡ answered list → list .value .kept ≡ true
+      → isSound (openJob t (k .value) (v .value) (w .value) (list .value .counts)) ≡ true
+      → BodyRead 4 t s at (field (ofJob (openJob t (k .value) (v .value) (w .value) (list .value .counts))) (list .next))
+  unfolding kindOf tableIn bodyBytes
+  job-fields at k v w list ek ev ew el kept sound =
+      let few = kept-inputs t taken in
+      let number = number-written s at k bytes ek in
+      let current = vector-written false (t .n) s (k .next) v few bytes ev in
+      let copied = vector-written false (t .n) s (v .next) w few bytes ew in
+      let counts = rows-written false (rows t) s (w .next) list (rows-le few) bytes el kept in
+      let last = both-stand s (v .next) (vectorBytes (t .n) (w .value)) (rowListBytes (list .value .counts)) (copied .stands) (copied .next) (counts .stands) (counts .next) in
+      let later = both-stand s (k .next) (vectorBytes (t .n) (v .value)) (vectorBytes (t .n) (w .value) ++ rowListBytes (list .value .counts)) (current .stands) (current .next) (last .0) (last .1) in
+      let whole = both-stand s at (numberBytes (k .value)) (vectorBytes (t .n) (v .value) ++ (vectorBytes (t .n) (w .value) ++ rowListBytes (list .value .counts))) (number .stands) (number .next) (later .0) (later .1) in
+      record {
+        same-kind = refl;
+        same-table = refl;
+        stands = whole .0;
+        next = whole .1;
+        rules = λ others rest. job-all-kept (openJob t (k .value) (v .value) (w .value) (list .value .counts)) taken sound (also refl rest);
+      }
+
+  job-tested : (at : ℕ) (b : Field Record) (k : Field ℕ) (v w : Field Vector) (list : Field RowList) → numberAt s at ≡ answered k → vectorAt false (t .n) s (k .next) ≡ answered v
+      → vectorAt false (t .n) s (v .next) ≡ answered w → rowListAt false (rows t) s (w .next) ≡ answered list
+      → checked (unsoundJob (list .value) (openJob t (k .value) (v .value) (w .value) (list .value .counts)) ∷ []) (answered (field (ofJob (openJob t (k .value) (v .value) (w .value) (list .value .counts))) (list .next))) ≡ answered b
+      → BodyRead 4 t s at b
+  job-tested at b k v w list ek ev ew el e =
+      let j = openJob t (k .value) (v .value) (w .value) (list .value .counts) in
+      let passed = checked-answered 9 (not (list .value .kept && isSound j)) (field (ofJob j) (list .next)) b e in
+      let fine = not-false (list .value .kept && isSound j) (passed .0) in
+      subst (BodyRead 4 t s at) (passed .1) (job-fields at k v w list ek ev ew el (and-left (list .value .kept) (isSound j) fine) (and-right (list .value .kept) (isSound j) fine))
+
+  job-body : (at : ℕ) (b : Field Record) → jobAt t s at ≡ answered b → BodyRead 4 t s at b
+  job-body at b e =
+      let (k, ek, e₁) = onward-answered (numberAt s at) _ b e in
+      let (v, ev, e₂) = onward-answered (vectorAt false (t .n) s (k .next)) _ b e₁ in
+      let (w, ew, e₃) = onward-answered (vectorAt false (t .n) s (v .next)) _ b e₂ in
+      let (list, el, e₄) = onward-answered (rowListAt false (rows t) s (w .next)) _ b e₃ in
+      job-tested at b k v w list ek ev ew el e₄
+
+  -- by the kind
+  body-written : (kind at : ℕ) (b : Field Record) → 1 ≤ kind → kind ≤ 4 → bodyAt kind t s at ≡ answered b → BodyRead kind t s at b
+  unfolding bodyAt
+  body-written zero at b low high e = absurd (omega arith)
+  body-written (suc zero) at b low high e = table-body at b e
+  body-written (suc (suc zero)) at b low high e = gate-body at b e
+  body-written (suc (suc (suc zero))) at b low high e = witness-body at b e
+  body-written (suc (suc (suc (suc zero)))) at b low high e = job-body at b e
+  body-written (suc (suc (suc (suc (suc k))))) at b low high e = absurd (omega arith)
+
+-- a record that was read from bytes is written as they stand
+record-written : (s : List ℕ) (x : Record) (f : Field Head) (b : Field Record) → HeadRead 4 s 0 f → BodyRead (f .value .kind) (f .value .table) s (f .next) b
+    → ltb (b .next) (length s) ≡ false → b .value ≡ x → s ≡ recordBytes x
+record-written s x f b head body ends e =
+    let same : headBytes (f .value .kind) (f .value .table) ++ bodyBytes (b .value) ≡ recordBytes (b .value) =
+    ap₂ (λ (kind : ℕ) (t : Table). headBytes kind t ++ bodyBytes (b .value)) (sym (body .same-kind)) (sym (body .same-table)) ∙ sym (head-and-body (b .value)) in
+    let whole = both-stand s 0 (headBytes (f .value .kind) (f .value .table)) (bodyBytes (b .value)) (head .stands) (head .next) (body .stands) (body .next) in
+    stands-whole s (headBytes (f .value .kind) (f .value .table) ++ bodyBytes (b .value)) (whole .0) (omega (arith, whole .1, ltb-false (b .next) (length s) ends)) ∙ same ∙ ap recordBytes e
+
+-- writing what was read gives the same bytes
+pub write-back : (s : List ℕ) → AllBytes s → (x : Record) → readRecord s ≡ answered x → (room : ℕ) → length s ≤ room → writeRecord x room ≡ answered s
+unfolding recordAt
+write-back s bytes x e room h =
+    let (f, ef, e₁) = onward-answered (headAt 4 s 0) _ x e in
+    let (b, eb, e₂) = onward-answered (bodyAt (f .value .kind) (f .value .table) s (f .next)) _ x e₁ in
+    let ended = checked-answered 6 (ltb (b .next) (length s)) (b .value) x e₂ in
+    let head = head-written 4 s 0 f bytes ef in
+    let body = body-written (f .value .table) s bytes (head .taken) (f .value .kind) (f .next) b (head .low) (head .high) eb in
+    let same = record-written s x f b head body (ended .0) (ended .1) in
+    let room-left : ltb room (length (recordBytes x)) ≡ false = le-ltb room (length (recordBytes x)) (omega (arith, ap length same)) in
+    let kept : NoneBroken (recordRules x (tooShort room (recordBytes x) ∷ [])) =
+    subst (λ (y : Record). NoneBroken (recordRules y (tooShort room (recordBytes x) ∷ []))) (ended .1) (body .rules (tooShort room (recordBytes x) ∷ []) (also room-left none)) in
+    none-broken-answered (recordRules x (tooShort room (recordBytes x) ∷ [])) (answered (recordBytes x)) kept ∙ ap answered (sym same)

@@ -1,0 +1,2 @@
+// Records written into a lent buffer: tables, gates, witnesses, and open jobs, which are saved so.
+pub mod write;
