@@ -1,5 +1,5 @@
 // The parts of a step of the stepping machine: the vector and its correction, the search for the lowest failing row, powers of two,
-// and the counts of a binate table. The functions ask for a table that keeps its format and a vector in its range.
+// and the counts of a binate table. The functions ask for at most eight inputs and a vector in its range.
 pub mod binate;
 pub mod power;
 pub mod scan;

@@ -65,7 +65,7 @@ module _ {f : Function} {x : State} (s : Sound f x) where
       by Looped n p = p .0
       by Binate n p = absurd (n refl)
 
-  -- a row past the table has no count
+  -- what is past the rows has no count
   pub sound-past : (r : ℕ) → rows f ≤ r → getD (x .counts) r 0 ≡ 0
   sound-past r h =
       let d = r - rows f in

@@ -40,7 +40,7 @@ use Rattle.state.proofs.TraceLaws.{corrected-traced, marked-traced}
 pub with-stage-same : (stage : Stage) (x : State) → x .stage ≡ stage → withStage stage x ≡ x
 with-stage-same stage x e = λ i. record { k = x .k; v = x .v; mark = x .mark; s = x .s; counts = x .counts; stage = sym e i }
 
--- counts that are all 0 are 0 past the table
+-- counts that are all 0 are 0 past the rows
 pub zeros-past : (m : ℕ) → allAtMost 0 (drop m zeros) ≡ true
 zeros-past m = all-at-most-from 0 (drop m zeros) (λ i h. omega (arith, getD-drop m zeros i 0, getD-replicate {A = ℕ} 256 (m + i) 0 0 (inside i h)))
   where

@@ -1,1 +1,1 @@
-// The state of the stepping machine on a table: its steps, its start, and when it is sound. Definitions and their laws, no code.
+// The state of the stepping machine on a function: its steps, its start, and when it is sound. Definitions and their laws, no code.

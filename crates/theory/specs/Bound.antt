@@ -1,4 +1,5 @@
--- What bounds a job: the squares of its vector, which K bounds, and the factor of a gate, which bounds K, each with n + 1 (demand 3).
+-- What bounds a job: the squares of its vector, which K bounds, and the factor of a gate, which bounds K, each with n + 1 (demand 3;
+-- over any function with n · top² + 1).
 -- Definitions only. Assumes nothing.
 use mathlib.Core.List.{List, [], _∷_}
 use Prim.Native.Nat.{ℕ, _+_, _*_}

@@ -1,3 +1,3 @@
 // The trace of a job, by its parts: whether the counts of the rows since the mark lead from the vector there to where the job stands. The
-// functions ask for a table that keeps its format.
+// functions ask for at most eight inputs.
 pub mod traced;
