@@ -14,7 +14,7 @@ use types::table::Table;
 ghost use mathlib.Core.Path.{_≡_};
 ghost use Prim.Native.Nat.{_≤_};
 ghost use lib.ListN.{length};
-ghost use Rattle.machine.specs.Scan.{Holds};
+ghost use Rattle.numbers.specs.Tabulate.{Holds};
 ghost use Rattle.lanes.specs.Codes.{stepAt};
 ghost use Rattle.job.specs.Machine.{run, fresh};
 ghost use Rattle.job.specs.Calls.{callBudget};

@@ -18,6 +18,11 @@ pub data Answered (A : Type 0) : Type 0 where
   answered : A → Answered A
   refused : ℕ → Answered A
 
+-- what comes after an answer; a refusal stands as it is
+abbrev pub andThen : {A B : Type 0} → Answered A → (A → Answered B) → Answered B
+andThen (answered a) later = later a
+andThen (refused n) later = refused n
+
 abbrev pub refuseIf : {A : Type 0} → Bool → ℕ → Answered A → Answered A
 refuseIf true n later = refused n
 refuseIf false n later = later

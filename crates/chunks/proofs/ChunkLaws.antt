@@ -18,7 +18,7 @@ use Rattle.table.proofs.TableLaws.{rows-le}
 use Rattle.types.specs.declared.vector.Vector.{Vector}
 use Rattle.function.specs.Failing.{failing}
 use Rattle.function.specs.Vector.{correctedBy, sameVector}
-use Rattle.function.specs.Binate.{zeros, oneMore}
+use Rattle.function.specs.Witness.{zeros, oneMore}
 use Rattle.machine.specs.Power.{highest}
 use Rattle.function.proofs.VectorLaws.{length-corrected}
 use Rattle.function.proofs.CountLaws.{length-one-more, one-more-other}

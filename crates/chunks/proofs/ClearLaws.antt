@@ -8,7 +8,7 @@ use lib.ListN.{length, getD, drop, List·getD-append}
 use lib.Seq.{ext-getD}
 use Rattle.numbers.specs.Tabulate.{tabulate}
 use Rattle.numbers.proofs.TabulateLaws.{filled, getD-unfilled, length-tabulate, getD-tabulate, length-filled}
-use Rattle.function.specs.Binate.{zeros}
+use Rattle.function.specs.Witness.{zeros}
 use Rattle.function.proofs.CountLaws.{getD-zeros}
 
 -- what it stores

@@ -12,7 +12,7 @@ use Rattle.table.specs.Gate.{inRange}
 use Rattle.types.specs.declared.vector.Vector.{Vector}
 use Rattle.function.specs.Failing.{failing}
 use Rattle.function.specs.Vector.{correctedBy, sameVector}
-use Rattle.function.specs.Binate.{zeros}
+use Rattle.function.specs.Witness.{zeros}
 use Rattle.lanes.specs.Sums.{magnitude, vectorSums}
 use Rattle.lanes.specs.Codes.{rowCode, foundCode}
 use Rattle.types.specs.declared.state.State.{State}

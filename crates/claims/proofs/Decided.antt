@@ -12,7 +12,7 @@ use borrow.Author.Tests.{le-ltb, ltb-true, ltb-false}
 use Rattle.types.specs.declared.table.Table.{Table}
 use Rattle.types.specs.declared.stage.Stage.{Stage}
 use Rattle.types.specs.declared.stage.Stage.the-variants.{Open, Found, Looped, Binate}
-use Rattle.cell.specs.Refusal.{Answered, answered, refused, NoneBroken}
+use Rattle.cell.specs.Refusal.{Answered, answered, refused, NoneBroken, andThen}
 use Rattle.cell.specs.Calls.{tableRules}
 use Rattle.cell.proofs.RefusalLaws.{answered-none-broken}
 use Rattle.cell.proofs.TableChecked.{kept-inputs, table-kept}
@@ -37,7 +37,7 @@ use Rattle.reporting.specs.Lines.{verdictText, recordLine, refusalLine, lastLin
 use Rattle.reporting.specs.Report.{inputMost, decided, noTally, counted, recordThen, reportFrom, report}
 use Rattle.reporting.proofs.DecidedLaws.{decided-run}
 use Rattle.theory.proofs.Answers.{EndedWithout, found-realises, found-accepted, ended-balances, ended-accepted, ended-excludes}
-use Rattle.threshold.specs.Result.{andThen, Handed}
+use Rattle.threshold.specs.Result.{Handed}
 use Rattle.threshold.specs.Interface.{tableIn, jobIn, tableRead, jobRead, outcomeIn, outcome, outcomeWritten, handedBack, decide, carriedOn}
 use Rattle.threshold.proofs.DecidedLaws.{decided-kept, carried-kept}
 use Rattle.claims.specs.Jobs.{Taken}

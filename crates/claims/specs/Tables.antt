@@ -15,10 +15,10 @@ use Rattle.types.specs.declared.vector.Vector.{Vector}
 use Rattle.types.specs.declared.stage.Stage.the-variants.{Open, Binate}
 use Rattle.function.specs.Function.{level}
 use Rattle.function.specs.Gate.{distance, gateTrue, Realises}
-use Rattle.function.specs.Witness.{sideSum, Balances}
+use Rattle.function.specs.Witness.{sideSum, Balances, zeros}
 use Rattle.function.specs.Turns.{turnsAt}
 use Rattle.function.specs.Failing.{margin, fails}
-use Rattle.function.specs.Binate.{zeros, binatePlace, binateCounts}
+use Rattle.function.specs.Binate.{binatePlace, binateCounts}
 use Rattle.table.specs.Table.{value, functionOf}
 use Rattle.job.specs.Machine.{startJob, fresh}
 

@@ -11,8 +11,7 @@ use lib.Seq.{getD-drop, getD-set-same, getD-set-other}
 use Rattle.numbers.specs.Tests.{allAtMost}
 use Rattle.numbers.proofs.TestLaws.{no-true, not-passed, all-at-most-at, all-at-most-from}
 use Rattle.table.specs.Witness.{countLimit}
-use Rattle.function.specs.Witness.{countOf}
-use Rattle.function.specs.Binate.{zeros}
+use Rattle.function.specs.Witness.{countOf, zeros}
 use Rattle.function.proofs.CountLaws.{getD-zeros}
 use Rattle.codec.specs.RowList.{filledFrom}
 use Rattle.codec.proofs.PairLaws.{filled-add, filled-most, filled-clear, clear-filled}

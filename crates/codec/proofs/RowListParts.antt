@@ -6,7 +6,7 @@ use mathlib.Core.List.{List}
 use Prim.Native.Nat.{ℕ, zero, suc}
 use Rattle.numbers.proofs.TestLaws.{and-both}
 use Rattle.cell.specs.Refusal.{answered}
-use Rattle.function.specs.Binate.{zeros}
+use Rattle.function.specs.Witness.{zeros}
 use Rattle.codec.specs.Field.{Field, Reading, field}
 use Rattle.codec.specs.Number.{numberAt}
 use Rattle.codec.specs.RowList.{RowList, Pair, lengthFits, rowFits, countFits, pairAt, lowestAfter, storedIf, pairsAt, rowListAt}

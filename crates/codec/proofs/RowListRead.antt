@@ -14,9 +14,8 @@ use borrow.Author.Tests.{lt-ltb, le-leb}
 use Rattle.numbers.specs.Tests.{allAtMost}
 use Rattle.numbers.proofs.TestLaws.{and-both}
 use Rattle.table.specs.Witness.{countLimit}
-use Rattle.function.specs.Witness.{countOf}
+use Rattle.function.specs.Witness.{countOf, zeros}
 use Rattle.cell.specs.Refusal.{answered}
-use Rattle.function.specs.Binate.{zeros}
 use Rattle.function.proofs.CountLaws.{getD-zeros}
 use Rattle.codec.specs.Field.{field}
 use Rattle.codec.specs.Number.{numberBytes}

@@ -6,9 +6,8 @@ use Prim.Native.Nat.{ℕ, zero, suc, _+_}
 use lib.Dec.{ltb, leb}
 use lib.ListN.{set}
 use Rattle.table.specs.Witness.{countLimit}
-use Rattle.function.specs.Witness.{onlyIf, countOf}
+use Rattle.function.specs.Witness.{onlyIf, countOf, zeros}
 use Rattle.cell.specs.Refusal.{Rule, rule, answered, checked}
-use Rattle.function.specs.Binate.{zeros}
 use Rattle.codec.specs.Field.{Reading, field, onward}
 use Rattle.codec.specs.Number.{numberBytes, numberAt}
 

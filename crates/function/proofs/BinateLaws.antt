@@ -14,9 +14,9 @@ use Rattle.numbers.specs.Tests.{sameBool, firstFrom, isSome}
 use Rattle.numbers.proofs.FirstLaws.{first-some}
 use Rattle.numbers.proofs.TestLaws.{no-true, and-left, and-right}
 use Rattle.function.specs.Function.{Function, levels, rows, raised}
-use Rattle.function.specs.Witness.{inputLevel, onlyIf, sideSum, Balances, countOf}
+use Rattle.function.specs.Witness.{inputLevel, onlyIf, sideSum, Balances, countOf, oneMore, zeros}
 use Rattle.function.specs.Turns.{firstTurn}
-use Rattle.function.specs.Binate.{oneMore, zeros, pairMore, binateAt, binatePlace, binateCounts}
+use Rattle.function.specs.Binate.{pairMore, binateAt, binatePlace, binateCounts}
 use Rattle.function.proofs.FunctionLaws.{unit, raised-level, cared-apart}
 use Rattle.function.proofs.CountLaws.{length-one-more, one-more-other, length-pair-more, getD-zeros}
 use Rattle.function.proofs.WitnessLaws.{side-sum-one-more, side-sum-zeros}

@@ -7,7 +7,8 @@ use Prim.Native.Nat.{ℕ, zero, suc, _+_, _^_, _≤_, _<_}
 use native.Mathlib.Omega.{arith}
 use lib.ListN.{length, getD, replicate, length-set}
 use lib.Seq.{getD-set-same, getD-set-other}
-use Rattle.function.specs.Binate.{oneMore, zeros, pairMore}
+use Rattle.function.specs.Witness.{oneMore, zeros}
+use Rattle.function.specs.Binate.{pairMore}
 
 -- ---- a count more
 

@@ -9,13 +9,14 @@ use lib.ListN.{length, getD}
 use lib.Seq.{ext-getD}
 use lib.IntN.{ℤ, pos, negsuc, negℤ, _+ℤ_, _-ℤ_, _*ℤ_, *ℤ-comm}
 use lib.Signed.{leZ}
+use Rattle.numbers.specs.Tests.{sameZ}
 use Rattle.numbers.specs.Tabulate.{tabulate}
 use Rattle.numbers.proofs.Int.{integers, parts-sub, parts-neg, parts-add}
 use Rattle.numbers.proofs.TestLaws.{and-left, and-right, and-both, not-passed, no-true}
 use Rattle.numbers.proofs.TabulateLaws.{tabulate-getD}
 use Rattle.types.specs.declared.vector.Vector.{Vector}
 use Rattle.function.specs.Witness.{inputLevel}
-use Rattle.function.specs.Vector.{sign, addLevels, correctedBy, sameZ, sameList, sameVector, component}
+use Rattle.function.specs.Vector.{sign, addLevels, correctedBy, sameList, sameVector, component}
 
 -- ---- equal vectors
 

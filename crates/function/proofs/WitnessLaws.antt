@@ -10,8 +10,7 @@ use Rattle.numbers.specs.Tests.{sameBool}
 use Rattle.numbers.proofs.SumLaws.{sum-below-ext, sum-below-most, sum-below-more, sum-below-term}
 use Rattle.numbers.proofs.TestLaws.{same-bool-refl}
 use Rattle.function.specs.Function.{Function, levels, rows}
-use Rattle.function.specs.Witness.{inputLevel, onlyIf, sideSum, Balances, countOf}
-use Rattle.function.specs.Binate.{oneMore, zeros}
+use Rattle.function.specs.Witness.{inputLevel, onlyIf, sideSum, Balances, countOf, oneMore, zeros}
 use Rattle.function.proofs.CountLaws.{one-more-same, one-more-other, getD-zeros}
 
 -- the two sides of a balance have the same total of each input, of input 0 too

@@ -4,17 +4,10 @@ use mathlib.Core.Bool.{Bool, true, false, _&&_}
 use mathlib.Core.List.{List}
 use mathlib.Core.Option.{Option, some, none}
 use Prim.Native.Nat.{ℕ, suc, _+_, _^_}
-use lib.ListN.{getD, set, replicate}
 use Rattle.numbers.specs.Tests.{firstFrom, isSome}
 use Rattle.function.specs.Function.{Function}
+use Rattle.function.specs.Witness.{oneMore, zeros}
 use Rattle.function.specs.Turns.{firstTurn}
-
--- a count with 1 added at row r
-abbrev pub oneMore : ℕ → List ℕ → List ℕ
-oneMore r counts = set counts r (getD counts r 0 + 1)
-
-abbrev pub zeros : List ℕ
-zeros = replicate 256 0
 
 -- the place's input is binate: it rises somewhere and falls elsewhere
 unfoldable pub binateAt : Function → ℕ → Bool

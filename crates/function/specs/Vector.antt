@@ -5,7 +5,7 @@ use mathlib.Core.List.{List, [], _∷_}
 use Prim.Native.Nat.{ℕ, zero, suc}
 use lib.ListN.{getD, replicate}
 use lib.IntN.{ℤ, pos, negsuc, negℤ, _+ℤ_, _-ℤ_, _*ℤ_}
-use lib.Signed.{leZ}
+use Rattle.numbers.specs.Tests.{sameZ}
 use Rattle.types.specs.declared.vector.Vector.{Vector}
 
 -- 1 on a true row, −1 on a false row
@@ -22,9 +22,6 @@ addLevels z level (x ∷ xs) = (x +ℤ pos (level 0) *ℤ z) ∷ addLevels z (λ
 -- taken from b; on a false row the reverse
 unfoldable pub correctedBy : Bool → (ℕ → ℕ) → Vector → Vector
 correctedBy y level v = record { a = addLevels (sign y) level (v .a); b = v .b -ℤ sign y }
-
-abbrev pub sameZ : ℤ → ℤ → Bool
-sameZ x y = leZ x y && leZ y x
 
 unfoldable pub sameList : List ℤ → List ℤ → Bool
 sameList [] [] = true

@@ -3,8 +3,8 @@
 use mathlib.Core.Path.{_≡_}
 use mathlib.Core.Bool.{Bool, true, false}
 use mathlib.Core.List.{List}
-use Prim.Native.Nat.{ℕ, zero, suc, _*_, _≤_, _<_}
-use lib.ListN.{getD}
+use Prim.Native.Nat.{ℕ, zero, suc, _+_, _*_, _≤_, _<_}
+use lib.ListN.{getD, set, replicate}
 use Rattle.numbers.specs.Sum.{sumBelow}
 use Rattle.numbers.specs.Tests.{sameBool}
 use Rattle.function.specs.Function.{Function, levels, rows}
@@ -34,3 +34,11 @@ pub record Balances (f : Function) (count : ℕ → ℕ) : Type 0 where
 -- the count of a row in an array
 abbrev pub countOf : List ℕ → ℕ → ℕ
 countOf counts r = getD counts r 0
+
+-- an array with no count
+abbrev pub zeros : List ℕ
+zeros = replicate 256 0
+
+-- an array with 1 added to the count of row r
+abbrev pub oneMore : ℕ → List ℕ → List ℕ
+oneMore r counts = set counts r (countOf counts r + 1)

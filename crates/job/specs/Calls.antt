@@ -18,7 +18,7 @@ use Rattle.types.specs.declared.stage.Stage.the-variants.{Open, Found, Looped, 
 use Rattle.job.specs.declared.job.Started.{Started}
 use Rattle.job.specs.declared.job.Carried.{Carried}
 use Rattle.job.specs.Machine.{run, fresh, startJob}
-use Rattle.function.specs.Binate.{zeros}
+use Rattle.function.specs.Witness.{zeros}
 pub use Rattle.state.specs.Machine.{callBudget}
 use Rattle.job.specs.Sound.{cap, isSound}
 

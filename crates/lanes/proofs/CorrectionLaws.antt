@@ -13,14 +13,13 @@ use Rattle.numbers.specs.Sum.{sumBelow, weightedSum}
 use Rattle.numbers.proofs.Int.{integers, parts-add, parts-sub, natAbs-parts, size-mul}
 use Rattle.numbers.proofs.Ring.{ring}
 use Rattle.numbers.proofs.SumLaws.{sum-below-zero, sum-below-suc, weighted-sum-nil, weighted-sum-cons}
-use Rattle.numbers.specs.Tabulate.{tabulate}
+use Rattle.numbers.specs.Tabulate.{tabulate, Holds}
 use Rattle.numbers.proofs.TabulateLaws.{length-tabulate, getD-tabulate, tabulate-ext, getD-unfilled}
 use Rattle.function.specs.Function.{level}
 use Rattle.function.specs.Gate.{distance}
 use Rattle.types.specs.declared.vector.Vector.{Vector}
 use Rattle.function.specs.Vector.{sign, addLevels, correctedBy}
 use Rattle.function.proofs.VectorLaws.{corrected-weights, corrected-threshold}
-use Rattle.machine.specs.Scan.{Holds}
 use Rattle.lanes.specs.Sums.{placeSum, vectorSums}
 use Rattle.lanes.specs.Codes.{rowCode, shared, stepAt}
 use Rattle.lanes.proofs.SharedLaws.{both, both-low, both-high, shared-most}

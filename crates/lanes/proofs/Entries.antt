@@ -9,10 +9,9 @@ use native.Mathlib.Omega.{arith}
 use lib.ListN.{length, getD}
 use lib.IntN.{ℤ, pos}
 use Rattle.numbers.proofs.TestLaws.{and-left, and-right}
-use Rattle.numbers.specs.Tabulate.{tabulate}
+use Rattle.numbers.specs.Tabulate.{tabulate, Holds}
 use Rattle.numbers.proofs.TabulateLaws.{filled, getD-unfilled}
-use Rattle.function.specs.Vector.{sameZ}
-use Rattle.machine.specs.Scan.{Holds}
+use Rattle.numbers.specs.Tests.{sameZ}
 use Rattle.function.proofs.VectorLaws.{same-z-correct}
 
 -- each entry is f at its place, counted from i

@@ -23,7 +23,7 @@ use Rattle.numbers.proofs.TestLaws.{no-true, not-passed}
 use Rattle.numbers.proofs.FirstLaws.{IsFirst, first-some, first-none}
 use Rattle.types.specs.declared.table.Table.{Table}
 use Rattle.function.specs.Failing.{margin}
-use Rattle.machine.specs.Scan.{Holds}
+use Rattle.numbers.specs.Tabulate.{Holds}
 use Rattle.lanes.specs.Blocks.{laneValue}
 use Rattle.lanes.specs.Codes.{rowCode, oneOf, keyOf}
 use Rattle.lanes.specs.Keys.{turned, turnedBy, leastBelow}

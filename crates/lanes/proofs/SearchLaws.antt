@@ -16,7 +16,7 @@ use Rattle.table.specs.Gate.{inRange}
 use Rattle.function.specs.Gate.{distance}
 use Rattle.types.specs.declared.vector.Vector.{Vector}
 use Rattle.function.specs.Failing.{failing}
-use Rattle.machine.specs.Scan.{Holds}
+use Rattle.numbers.specs.Tabulate.{Holds}
 use Rattle.lanes.specs.Blocks.{blocksOf, laneRows, laneValue}
 use Rattle.lanes.specs.Sums.{vectorSums, Narrow}
 use Rattle.lanes.specs.Codes.{rowCode, foundCode, oneOf, keyOf}

@@ -8,7 +8,7 @@ ghost use mathlib.Core.Path.{_≡_};
 ghost use mathlib.Core.Bool.{false};
 ghost use Prim.Native.Nat.{ℕ, _%_, _≤_, _<_};
 ghost use lib.ListN.{length, getD};
-ghost use Rattle.machine.specs.Scan.{Holds};
+ghost use Rattle.numbers.specs.Tabulate.{Holds};
 ghost use Rattle.lanes.specs.Blocks.{laneRows, laneValue};
 ghost use Rattle.lanes.specs.Codes.{oneOf, keyOf};
 

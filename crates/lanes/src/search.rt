@@ -10,7 +10,7 @@ ghost use lib.Signed.{ltZ};
 ghost use Rattle.table.specs.Gate.{inRange};
 ghost use Rattle.types.specs.declared.vector.Vector.{Vector};
 ghost use Rattle.function.specs.Failing.{failing};
-ghost use Rattle.machine.specs.Scan.{Holds};
+ghost use Rattle.numbers.specs.Tabulate.{Holds};
 ghost use Rattle.lanes.specs.Blocks.{laneRows};
 ghost use Rattle.lanes.specs.Sums.{vectorSums, Narrow};
 ghost use Rattle.lanes.specs.Codes.{foundCode, oneOf, keyOf};

@@ -1,5 +1,5 @@
 // The table of steps: what a correction adds to the distances of the rows of five inputs.
-ghost use Rattle.machine.specs.Scan.{Holds};
+ghost use Rattle.numbers.specs.Tabulate.{Holds};
 ghost use Rattle.lanes.specs.Codes.{stepAt};
 
 // A line for each code of a row of five inputs, an entry for each row.

@@ -15,7 +15,7 @@ use lib.Signed.{ltZ}
 use borrow.Author.Tests.{lt-ltb, le-ltb}
 use Rattle.table.proofs.InputLaws.{found-some, found-none}
 use Rattle.numbers.specs.Tests.{firstFrom}
-use Rattle.numbers.specs.Tabulate.{tabulate}
+use Rattle.numbers.specs.Tabulate.{tabulate, Holds}
 use Rattle.numbers.proofs.FirstLaws.{IsFirst, first-some, first-none}
 use Rattle.numbers.proofs.TabulateLaws.{getD-tabulate}
 use Rattle.types.specs.declared.table.Table.{Table}
@@ -26,7 +26,7 @@ use Rattle.table.specs.Inputs.{found}
 use Rattle.table.proofs.TableLaws.{rows-le, level-past}
 use Rattle.types.specs.declared.vector.Vector.{Vector}
 use Rattle.function.specs.Failing.{margin, fails, failing}
-use Rattle.machine.specs.Scan.{rowDistance, failsAt, Holds, doubled}
+use Rattle.machine.specs.Scan.{rowDistance, failsAt, doubled}
 use Rattle.machine.proofs.DistanceLaws.{partner-distance}
 use Rattle.function.proofs.FailingLaws.{failing-at, none-failing}
 use Rattle.function.specs.Function.{level}

@@ -1,9 +1,8 @@
 -- The lists in which the search for the lowest failing row works: the values of the rows, and the distances of the rows so far, of which an
 -- input makes twice as many. For the inside of the machine alone. Definitions only. Assumes nothing.
-use mathlib.Core.Path.{_≡_}
 use mathlib.Core.Bool.{Bool, false, cond}
 use mathlib.Core.List.{List}
-use Prim.Native.Nat.{ℕ, _-_, _<_}
+use Prim.Native.Nat.{ℕ, _-_}
 use lib.Dec.{ltb}
 use lib.ListN.{getD}
 use lib.IntN.{ℤ, pos, _+ℤ_}
@@ -19,10 +18,6 @@ rowDistance ws th r = distance ws th (level 2 r)
 -- row r fails, by the value that a list has for it and by its distance
 unfoldable pub failsAt : List Bool → (ℕ → ℤ) → ℕ → Bool
 failsAt values distance r = ltZ (margin (getD values r false) (distance r)) (pos 1)
-
--- a list holds the distances of the rows below m
-abbrev pub Holds : (ℕ → ℤ) → ℕ → List ℤ → Type 0
-Holds distance m held = (r : ℕ) → r < m → getD held r (pos 0) ≡ distance r
 
 -- the distances of twice `half` rows: below `half` those that a list holds, and from there on that of the row `half` below and the weight
 unfoldable pub doubled : (half : ℕ) → ℤ → List ℤ → ℕ → ℤ

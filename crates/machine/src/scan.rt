@@ -10,12 +10,12 @@ ghost use lib.ListN.{length, getD};
 ghost use lib.IntN.{pos, natAbs};
 ghost use lib.Signed.{ltZ};
 ghost use Rattle.numbers.specs.Tests.{firstFrom};
-ghost use Rattle.numbers.specs.Tabulate.{tabulate};
+ghost use Rattle.numbers.specs.Tabulate.{tabulate, Holds};
 ghost use Rattle.table.specs.Table.{value, functionOf};
 ghost use Rattle.table.specs.Gate.{weightLimit, inRange};
 ghost use Rattle.table.specs.Inputs.{found};
 ghost use Rattle.function.specs.Failing.{margin, failing};
-ghost use Rattle.machine.specs.Scan.{failsAt, Holds, doubled};
+ghost use Rattle.machine.specs.Scan.{failsAt, doubled};
 ghost use Rattle.machine.specs.Words.{valuesBelow};
 ghost use Rattle.function.specs.Gate.{distance};
 

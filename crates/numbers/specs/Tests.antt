@@ -5,10 +5,16 @@ use mathlib.Core.List.{List, [], _∷_}
 use mathlib.Core.Option.{Option, some, none}
 use Prim.Native.Nat.{ℕ, zero, suc}
 use lib.Dec.{leb}
+use lib.IntN.{ℤ}
+use lib.Signed.{leZ}
 
 -- whether two tests agree
 abbrev pub sameBool : Bool → Bool → Bool
 sameBool a b = cond a b (not b)
+
+-- whether two integers are equal
+abbrev pub sameZ : ℤ → ℤ → Bool
+sameZ x y = leZ x y && leZ y x
 
 -- whether each number of a list is at most the limit
 unfoldable pub allAtMost : ℕ → List ℕ → Bool

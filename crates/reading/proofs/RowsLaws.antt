@@ -11,7 +11,7 @@ use lib.ListN.{set}
 use borrow.Author.Tests.{ltb-true}
 use Rattle.numbers.proofs.TestLaws.{and-left, and-right}
 use Rattle.cell.specs.Refusal.{answered, refused, checked}
-use Rattle.function.specs.Binate.{zeros}
+use Rattle.function.specs.Witness.{zeros}
 use Rattle.codec.specs.Field.{Field, Reading, field, onward}
 use Rattle.codec.specs.Number.{numberAt}
 use Rattle.codec.specs.RowList.{RowList, Pair, outOfRange, lengthFits, rowFits, countFits, pairAt, lowestAfter, storedIf, pairsAt, rowListAt}

@@ -9,7 +9,7 @@ use Rattle.cell.specs.Refusal.{answered, refused}
 use Rattle.cell.specs.declared.refusal.Status.the-variants as Status′
 use Rattle.types.specs.declared.vector.Vector.{Vector}
 use Rattle.function.specs.Vector.{zeroVector}
-use Rattle.function.specs.Binate.{zeros}
+use Rattle.function.specs.Witness.{zeros}
 use Rattle.codec.specs.Field.{Reading}
 use Rattle.codec.specs.RowList.{RowList, Pair}
 use Rattle.codec.specs.Head.{Head}

@@ -5,7 +5,7 @@ use table::witness::COUNT_LIMIT;
 ghost use mathlib.Core.Path.{_≡_};
 ghost use Prim.Native.Nat.{_≤_, _<_};
 ghost use Rattle.cell.specs.Refusal.{refused};
-ghost use Rattle.function.specs.Binate.{zeros};
+ghost use Rattle.function.specs.Witness.{zeros};
 ghost use Rattle.codec.specs.RowList.{pairAt, pairsAt, rowListAt, lengthFits, rowFits, countFits};
 ghost use Rattle.reading.specs.Fields.{pairField, rowsField};
 

@@ -3,7 +3,7 @@ use Rattle.types.specs.declared.table.Table.{Table}
 use Rattle.types.specs.declared.gate.Gate.{Gate}
 use Rattle.types.specs.declared.witness.Witness.{Witness}
 use Rattle.cell.specs.Refusal.{Answered, answered, refused}
-use Rattle.function.specs.Binate.{zeros}
+use Rattle.function.specs.Witness.{zeros}
 use Rattle.job.specs.declared.job.Job.{Job}
 use Rattle.types.specs.declared.stage.Stage.the-variants.{Open}
 use Rattle.job.specs.Machine.{startJob}

@@ -9,6 +9,7 @@ use lib.Pow.{pow-pos}
 use lib.ListN.{length-replicate}
 use lib.IntN.{pos}
 use lib.Signed.{ltZ}
+use Rattle.function.specs.Witness.{zeros}
 use Rattle.numbers.specs.Sum.{weightedSum}
 use Rattle.numbers.specs.Tests.{allAtMost}
 use Rattle.types.specs.declared.table.Table.{Table}
@@ -16,7 +17,7 @@ use Rattle.types.specs.declared.stage.Stage.the-variants.{Open, Found, Binate}
 use Rattle.function.specs.Function.{Function, rows}
 use Rattle.function.specs.Gate.{distance}
 use Rattle.function.specs.Failing.{margin, fails, failing}
-use Rattle.function.specs.Binate.{zeros, binatePlace, binateCounts}
+use Rattle.function.specs.Binate.{binatePlace, binateCounts}
 use Rattle.function.specs.Vector.{zeroVector}
 use Rattle.function.proofs.CountLaws.{getD-zeros}
 use Rattle.function.proofs.FailingLaws.{failing-at}

@@ -8,13 +8,14 @@ use Prim.Native.Nat.{ℕ, zero, suc, _+_, _-_, _≤_}
 use native.Mathlib.Nat.{zero-add, suc-add}
 use native.Mathlib.Omega.{arith}
 use lib.Dec.{eqb}
+use Rattle.function.specs.Witness.{oneMore, zeros}
 use Rattle.types.specs.declared.state.State.{State}
 use Rattle.types.specs.declared.stage.Stage.{Stage}
 use Rattle.types.specs.declared.stage.Stage.the-variants.{Open, Found, Looped, Binate}
 use Rattle.function.specs.Function.{Function, levels}
 use Rattle.function.specs.Failing.{failing}
 use Rattle.function.specs.Vector.{correctedBy, sameVector, zeroVector}
-use Rattle.function.specs.Binate.{oneMore, zeros, binatePlace, binateCounts}
+use Rattle.function.specs.Binate.{binatePlace, binateCounts}
 use Rattle.state.specs.Machine.{startState, startStage, freshBy, fresh, withStage, markIf, marked, settleBy, corrected, settled, closeIf, closed, stepBy, stepIn, step, run}
 use Rattle.machine.specs.Power.{highest}
 

@@ -10,7 +10,7 @@ use lib.Dec.{leb, eqb}
 use lib.ListN.{length}
 use lib.IntN.{ℤ, pos, _+ℤ_}
 use borrow.Author.Tests.{leb-true, le-leb, eqb-true, eq-eqb}
-use Rattle.numbers.specs.Tests.{allAtMost, allBelow, isSome}
+use Rattle.numbers.specs.Tests.{allAtMost, allBelow, isSome, sameZ}
 use Rattle.numbers.proofs.TestLaws.{no-true, and-left, and-right, and-both, all-below-at, all-below-from}
 use Rattle.types.specs.declared.table.Table.{Table}
 use Rattle.table.specs.Table.{functionOf}
@@ -22,7 +22,7 @@ use Rattle.types.specs.declared.stage.Stage.the-variants.{Open, Found, Looped, 
 use Rattle.function.specs.Witness.{sideSum, countOf}
 use Rattle.function.specs.Failing.{failing}
 use Rattle.function.specs.Binate.{binatePlace, binateCounts}
-use Rattle.function.specs.Vector.{sameZ, sameVector, zeroVector, component}
+use Rattle.function.specs.Vector.{sameVector, zeroVector, component}
 use Rattle.function.proofs.BinateLaws.{length-binate-counts}
 use Rattle.state.specs.Sound.{Shaped, Traced, SoundIn, Sound, isShaped, isTraced, isBinateWith, soundIn, isSound}
 use Rattle.function.proofs.VectorLaws.{same-z-correct, same-vector-correct}

@@ -20,7 +20,7 @@ use Rattle.types.specs.declared.table.Table.{Table}
 use Rattle.types.specs.declared.vector.Vector.{Vector}
 use Rattle.function.specs.Failing.{failing}
 use Rattle.function.specs.Vector.{correctedBy, sameVector}
-use Rattle.function.specs.Binate.{oneMore}
+use Rattle.function.specs.Witness.{oneMore}
 use Rattle.machine.specs.Power.{highest}
 use Rattle.function.proofs.FailingLaws.{failing-some}
 use Rattle.types.specs.declared.state.State.{State}

@@ -19,10 +19,9 @@ use Rattle.types.specs.declared.state.State.{State}
 use Rattle.types.specs.declared.stage.Stage.{Stage}
 use Rattle.types.specs.declared.stage.Stage.the-variants.{Open, Found, Looped}
 use Rattle.function.specs.Function.{Function, levels, rows, Fits}
-use Rattle.function.specs.Witness.{countOf}
+use Rattle.function.specs.Witness.{countOf, zeros}
 use Rattle.function.specs.Failing.{failing}
 use Rattle.function.specs.Vector.{sign, sameVector}
-use Rattle.function.specs.Binate.{zeros}
 use Rattle.state.specs.Machine.{corrected, withStage, markIf, marked, settled, closed, step}
 use Rattle.machine.specs.Power.{highest}
 use Rattle.state.specs.Sound.{cap, Shaped, Traced, NotBinate, markFor, SoundIn, Sound}

@@ -8,11 +8,10 @@ use lib.IntN.{ℤ, pos, negsuc, _+ℤ_, _*ℤ_}
 use Rattle.numbers.specs.Tests.{sameBool}
 use Rattle.numbers.proofs.Int.{integers, parts-add, parts-mul}
 use Rattle.function.specs.Function.{Function, levels, rows, Fits}
-use Rattle.function.specs.Witness.{inputLevel, onlyIf, sideSum, countOf}
+use Rattle.function.specs.Witness.{inputLevel, onlyIf, sideSum, countOf, oneMore, zeros}
 use Rattle.types.specs.declared.vector.Vector.{Vector}
 use Rattle.types.specs.declared.state.State.{State}
 use Rattle.function.specs.Vector.{sign, correctedBy, component}
-use Rattle.function.specs.Binate.{oneMore, zeros}
 use Rattle.state.specs.Machine.{corrected}
 use Rattle.state.specs.Sound.{Shaped, Traced}
 use Rattle.function.proofs.VectorLaws.{component-corrected}

@@ -5,13 +5,14 @@ use mathlib.Core.List.{List}
 use mathlib.Core.Option.{Option, some, none}
 use Prim.Native.Nat.{ℕ, zero, suc, _+_}
 use lib.Dec.{eqb}
+use Rattle.function.specs.Witness.{oneMore, zeros}
 use Rattle.types.specs.declared.stage.Stage.{Stage}
 use Rattle.types.specs.declared.stage.Stage.the-variants.{Open, Found, Looped, Binate}
 use Rattle.types.specs.declared.state.State.{State}
 use Rattle.function.specs.Function.{Function, levels}
 use Rattle.function.specs.Vector.{correctedBy, sameVector, zeroVector}
 use Rattle.function.specs.Failing.{failing}
-use Rattle.function.specs.Binate.{oneMore, zeros, binatePlace, binateCounts}
+use Rattle.function.specs.Binate.{binatePlace, binateCounts}
 use Rattle.machine.specs.Power.{highest}
 
 -- ---- fresh

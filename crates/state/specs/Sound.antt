@@ -7,7 +7,7 @@ use Prim.Native.Nat.{ℕ, suc, _+_, _-_, _*_, _≤_}
 use lib.Dec.{leb, eqb}
 use lib.ListN.{length, drop}
 use lib.IntN.{pos, _+ℤ_}
-use Rattle.numbers.specs.Tests.{allAtMost, allBelow, isSome}
+use Rattle.numbers.specs.Tests.{allAtMost, allBelow, isSome, sameZ}
 use Rattle.types.specs.declared.table.Table.{Table}
 use Rattle.types.specs.declared.vector.Vector.{Vector}
 use Rattle.types.specs.declared.stage.Stage.{Stage}
@@ -16,7 +16,7 @@ use Rattle.types.specs.declared.state.State.{State}
 use Rattle.function.specs.Function.{Function, rows}
 use Rattle.function.specs.Witness.{sideSum, countOf}
 use Rattle.function.specs.Failing.{failing}
-use Rattle.function.specs.Vector.{sameZ, sameVector, zeroVector, component}
+use Rattle.function.specs.Vector.{sameVector, zeroVector, component}
 use Rattle.function.specs.Binate.{binatePlace, binateCounts}
 use Rattle.table.specs.Table.{functionOf}
 use Rattle.table.specs.Gate.{inRange}

@@ -5,7 +5,7 @@ use types::state::State;
 use types::table::Table;
 ghost use mathlib.Core.Path.{_≡_};
 ghost use Prim.Native.Nat.{_≤_};
-ghost use Rattle.machine.specs.Scan.{Holds};
+ghost use Rattle.numbers.specs.Tabulate.{Holds};
 ghost use Rattle.lanes.specs.Codes.{stepAt};
 ghost use Rattle.state.specs.Machine.{run, fresh, callBudget};
 ghost use Rattle.table.specs.Table.{functionOf};

@@ -18,7 +18,7 @@ ghost use mathlib.Core.Path.{_≡_};
 ghost use mathlib.Core.Logic.{_≢_};
 ghost use mathlib.Core.Bool.{true, false};
 ghost use Prim.Native.Nat.{_+_, _-_, _≤_, _<_};
-ghost use Rattle.machine.specs.Scan.{Holds};
+ghost use Rattle.numbers.specs.Tabulate.{Holds};
 ghost use Rattle.table.specs.Gate.{weightLimit, inRange};
 ghost use Rattle.lanes.specs.Sums.{magnitude};
 ghost use Rattle.lanes.specs.Codes.{stepAt};

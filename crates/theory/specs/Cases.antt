@@ -11,7 +11,7 @@ use Rattle.cell.specs.Refusal.{answered, refused}
 use Rattle.cell.specs.Calls.{gateValue, checkWitness, chowParameters}
 use Rattle.job.specs.declared.job.Job.{Job}
 use Rattle.types.specs.declared.stage.Stage.the-variants.{Open, Found, Binate}
-use Rattle.function.specs.Binate.{oneMore, zeros}
+use Rattle.function.specs.Witness.{oneMore, zeros}
 use Rattle.function.specs.Vector.{sameVector, zeroVector}
 use Rattle.job.specs.Machine.{run, startJob, fresh}
 use Rattle.job.specs.Sound.{isSound}

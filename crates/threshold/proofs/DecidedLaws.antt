@@ -7,7 +7,7 @@ use Prim.Native.Nat.{ℕ, _+_, _≤_}
 use native.Mathlib.Omega.{arith}
 use borrow.Author.Tests.{le-ltb, ltb-false}
 use Rattle.types.specs.declared.table.Table.{Table}
-use Rattle.cell.specs.Refusal.{Answered, answered, refused, checked, NoneBroken, none, also}
+use Rattle.cell.specs.Refusal.{Answered, answered, refused, checked, NoneBroken, none, also, andThen}
 use Rattle.cell.specs.Calls.{tableRules}
 use Rattle.cell.proofs.RefusalLaws.{none-broken-answered, answered-none-broken}
 use Rattle.cell.proofs.TableChecked.{kept-inputs, table-kept}
@@ -19,7 +19,7 @@ use Rattle.types.specs.declared.stage.Stage.the-variants.{Open}
 use Rattle.job.specs.Machine.{run, fresh}
 use Rattle.job.specs.Sound.{cap, Sound}
 use Rattle.job.specs.Calls.{callBudget, freshJob, jobRules, budgetRange, pastCap, ifOpen, carryOn, carried}
-use Rattle.threshold.specs.Result.{andThen, withMade}
+use Rattle.threshold.specs.Result.{withMade}
 use Rattle.threshold.specs.Interface.{outcomeWritten, handedBack}
 use Rattle.job.proofs.MachineLaws.{fresh-table, fresh-k, open-or-ended, run-ended, run-table}
 use Rattle.job.proofs.SoundLaws.{is-sound-correct}

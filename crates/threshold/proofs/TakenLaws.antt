@@ -8,7 +8,7 @@ use lib.ListN.{length}
 use denote.Enum.Declared.{tagOf}
 use types.Run.{OneOf}
 use Rattle.types.specs.declared.table.Table.{Table}
-use Rattle.cell.specs.Refusal.{Answered, answered, refused, NoneBroken}
+use Rattle.cell.specs.Refusal.{Answered, answered, refused, NoneBroken, andThen}
 use Rattle.cell.specs.Calls.{tableRules}
 use Rattle.cell.proofs.RefusalLaws.{answered-none-broken}
 use Rattle.cell.proofs.TableChecked.{table-kept}
@@ -22,7 +22,7 @@ use Rattle.records.specs.Calls.{asRead}
 use Rattle.writers.specs.Calls.{tooShort, recordRules}
 use Rattle.writers.proofs.WriteBack.{write-back}
 use Rattle.records.proofs.read.Kind.{the-type}
-use Rattle.threshold.specs.Result.{andThen, numberFor}
+use Rattle.threshold.specs.Result.{numberFor}
 use Rattle.threshold.specs.Interface.{tableIn, jobIn, tableRead, jobRead, checkIn, valueIn}
 
 -- the record of a kind, from the parts that were read

@@ -6,7 +6,7 @@ use Prim.Native.Nat.{ℕ, _-_}
 use Rattle.types.specs.declared.table.Table.{Table}
 use Rattle.table.specs.Inputs.{kindsOf}
 use Rattle.table.specs.Chow.{chowOf}
-use Rattle.cell.specs.Refusal.{Answered, answered, refused}
+use Rattle.cell.specs.Refusal.{Answered, answered, refused, andThen}
 use Rattle.cell.specs.Calls.{checkGate, checkWitness, tableValue, gateValue}
 use Rattle.job.specs.declared.job.Job.{Job}
 use Rattle.types.specs.declared.stage.Stage.{Stage}
@@ -16,7 +16,7 @@ use Rattle.job.specs.Calls.{callBudget, carryOn, gateOf, witnessOf}
 use Rattle.records.specs.Record.{Record, ofTable, ofGate, ofWitness, ofJob, recordBytes, readRecord}
 use Rattle.threshold.specs.declared.tables.Asked.{Asked}
 use Rattle.threshold.specs.declared.tables.Asked.the-variants as Asked′
-use Rattle.threshold.specs.Result.{andThen, said, fitted, Handed, withMade, otherKind}
+use Rattle.threshold.specs.Result.{said, fitted, Handed, withMade, otherKind}
 use Rattle.threshold.specs.Inputs.{kindBytes, chowBytes}
 
 -- ---- what a call takes

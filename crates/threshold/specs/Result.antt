@@ -5,17 +5,12 @@ use mathlib.Core.List.{List, [], _∷_}
 use Prim.Native.Nat.{ℕ}
 use lib.ListN.{length}
 use lib.IntN.{ℤ, pos, negℤ}
-use Rattle.cell.specs.Refusal.{Answered, answered, refused, checked}
+use Rattle.cell.specs.Refusal.{Answered, answered, refused, andThen, checked}
 use Rattle.cell.specs.declared.refusal.Answer.{Answer}
 use Rattle.cell.specs.declared.refusal.Answer.the-variants as Answer′
 use Rattle.records.specs.declared.read.Kind.{Kind}
 use Rattle.records.specs.declared.read.Kind.the-variants as Kind′
 use Rattle.writers.specs.Calls.{tooShort}
-
--- what comes after an answer; a refusal stands as it is
-abbrev pub andThen : {A B : Type 0} → Answered A → (A → Answered B) → Answered B
-andThen (answered a) later = later a
-andThen (refused n) later = refused n
 
 -- the number that is returned: the answer's, or the negative of the refusal's
 abbrev pub asResult : Answered ℕ → ℤ

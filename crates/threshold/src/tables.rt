@@ -10,10 +10,10 @@ use types::table::Table;
 ghost use mathlib.Core.Path.{_≡_};
 ghost use mathlib.Core.List.{[]};
 ghost use lib.ListN.{length};
-ghost use Rattle.cell.specs.Refusal.{NoneBroken};
+ghost use Rattle.cell.specs.Refusal.{NoneBroken, andThen};
 ghost use Rattle.cell.specs.Calls.{tableRules};
 ghost use Rattle.writers.specs.Calls.{lent};
-ghost use Rattle.threshold.specs.Result.{asResult, measured, andThen};
+ghost use Rattle.threshold.specs.Result.{asResult, measured};
 ghost use Rattle.threshold.specs.Interface.{tableRead, askedOf, kinds, chow};
 
 // What is asked of a table's inputs.

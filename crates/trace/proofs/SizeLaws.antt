@@ -12,6 +12,7 @@ use mir.Syntax.{Width, w32}
 use mir.Val.{toZ, ofZ, SFits}
 use mir.Facts.{toZ-ofZ}
 use borrow.Author.Tests.{eqb-true, eqb-false}
+use Rattle.numbers.specs.Tests.{sameZ}
 use Rattle.numbers.proofs.Int.{up, dn, parts-neg}
 use Rattle.numbers.proofs.Widths.{fits-size}
 use Rattle.numbers.proofs.TestLaws.{not-passed}
@@ -22,7 +23,7 @@ use Rattle.table.proofs.TableLaws.{rows-le}
 use Rattle.table.proofs.InputLaws.{side-terms-le}
 use Rattle.function.proofs.WitnessLaws.{side-sum-terms}
 use Rattle.types.specs.declared.vector.Vector.{Vector}
-use Rattle.function.specs.Vector.{sameZ, component}
+use Rattle.function.specs.Vector.{component}
 use Rattle.function.proofs.VectorLaws.{same-z-correct}
 
 -- the sum of a side of counts below 2^32, of which there are at most 256, is below 2^40

@@ -9,11 +9,11 @@ ghost use Prim.Native.Nat.{ℕ, suc, _+_, _*_, _^_, _≤_, _<_};
 ghost use lib.Dec.{eqb};
 ghost use lib.ListN.{length, getD};
 ghost use lib.IntN.{pos, _+ℤ_};
-ghost use Rattle.numbers.specs.Tests.{sameBool, allBelow};
+ghost use Rattle.numbers.specs.Tests.{sameBool, allBelow, sameZ};
 ghost use Rattle.numbers.specs.Tabulate.{tabulate};
 ghost use Rattle.table.specs.Table.{value, functionOf};
 ghost use Rattle.function.specs.Witness.{inputLevel, onlyIf, sideSum, countOf};
-ghost use Rattle.function.specs.Vector.{sameZ, component};
+ghost use Rattle.function.specs.Vector.{component};
 ghost use Rattle.function.specs.Function.{level};
 
 // Returns the component of a vector that a correction changes by the level of the input: input 0 is the negation of b.

@@ -13,7 +13,7 @@ use mir.Val.{toZ, ofZ, SFits}
 use mir.Facts.{toZ-ofZ, toZ-pos}
 use Rattle.numbers.proofs.Int.{integers, parts-sub, parts-fits}
 use Rattle.numbers.proofs.Widths.{size-fits}
-use Rattle.machine.specs.Scan.{Holds}
+use Rattle.numbers.specs.Tabulate.{Holds}
 use Rattle.lanes.proofs.BlockLaws.{blocks-le}
 use Rattle.lanes.proofs.KeyLaws.{keyBy, key-by, holds-more}
 use Rattle.lanes.proofs.keys.store_keys.Statement.{statement}

@@ -8,7 +8,7 @@ use borrow.Author.Needs.{needs}
 use lib.ListN.{length, getD, length-set}
 use mir.Syntax.{w16}
 use mir.Val.{toZ, boolByte}
-use Rattle.machine.specs.Scan.{Holds}
+use Rattle.numbers.specs.Tabulate.{Holds}
 use Rattle.lanes.proofs.BlockLaws.{blocks-le}
 use Rattle.lanes.proofs.KeyLaws.{oneBy, one-by, holds-more}
 use Rattle.lanes.proofs.keys.store_ones.Statement.{statement}

@@ -6,11 +6,12 @@ use mathlib.Core.Option.{some}
 use Prim.Native.Nat.{ℕ, _+_, _^_, _<_}
 use native.Mathlib.Omega.{arith}
 use borrow.Author.Needs.{needs}
+use Rattle.function.specs.Witness.{zeros}
 use Rattle.table.proofs.InputLaws.{found-some}
 use Rattle.table.specs.declared.inputs.Found.{Found}
 use Rattle.table.specs.Inputs.{found}
 use Rattle.function.specs.Turns.{firstTurn}
-use Rattle.function.specs.Binate.{zeros, pairMore}
+use Rattle.function.specs.Binate.{pairMore}
 use Rattle.machine.proofs.BinateLaws.{first-turn-partner}
 use Rattle.function.proofs.CountLaws.{getD-zeros, pair-more-le}
 use Rattle.function.proofs.BinateLaws.{binate-counts-pairs}

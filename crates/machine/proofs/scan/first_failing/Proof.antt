@@ -15,11 +15,12 @@ use lib.IntN.{ℤ, pos, _-ℤ_}
 use mir.Syntax.{w32}
 use mir.Val.{toZ, ofZ, SFits}
 use mir.Facts.{toZ-ofZ}
+use Rattle.numbers.specs.Tabulate.{Holds}
 use Rattle.numbers.proofs.Int.{up, dn, natAbs-parts}
 use Rattle.numbers.proofs.Widths.{size-fits}
 use Rattle.table.specs.Gate.{weightLimit}
 use Rattle.table.specs.Inputs.{found}
-use Rattle.machine.specs.Scan.{rowDistance, failsAt, Holds}
+use Rattle.machine.specs.Scan.{rowDistance, failsAt}
 use Rattle.machine.proofs.RangeLaws.{InRange, in-range-correct, in-range-at}
 use Rattle.machine.proofs.DistanceLaws.{distance-zero, distance-size}
 use Rattle.machine.proofs.ScanLaws.{Passed, fails-at-test, blockSearch, block-row, block-passed, scan-row, scan-nowhere}

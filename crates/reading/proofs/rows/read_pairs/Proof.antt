@@ -6,7 +6,7 @@ use Prim.Native.Nat.{_<_}
 use native.Mathlib.Omega.{arith}
 use borrow.Author.Needs.{needs}
 use Rattle.cell.specs.Refusal.{answered}
-use Rattle.function.specs.Binate.{zeros}
+use Rattle.function.specs.Witness.{zeros}
 use Rattle.codec.specs.Field.{Reading}
 use Rattle.codec.specs.RowList.{RowList, Pair, pairAt, pairsAt}
 use Rattle.reading.specs.Fields.{rowsField}

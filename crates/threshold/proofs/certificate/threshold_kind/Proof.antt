@@ -5,9 +5,9 @@ use Prim.Native.Nat.{ℕ}
 use mir.Syntax.{w64}
 use borrow.Author.Needs.{needs}
 use Rattle.numbers.proofs.Int.{back}
-use Rattle.cell.specs.Refusal.{answered}
+use Rattle.cell.specs.Refusal.{answered, andThen}
 use Rattle.records.specs.declared.read.Kind.{Kind}
-use Rattle.threshold.specs.Result.{andThen, asResult}
+use Rattle.threshold.specs.Result.{asResult}
 use Rattle.threshold.specs.Interface.{kindOf, kind}
 use Rattle.threshold.proofs.TakenLaws.{recordOf, taken}
 use Rattle.threshold.proofs.certificate.threshold_kind.Statement.{statement}

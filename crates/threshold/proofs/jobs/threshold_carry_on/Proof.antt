@@ -7,10 +7,10 @@ use lib.ListN.{length}
 use mir.Syntax.{w64}
 use borrow.Author.Needs.{needs}
 use Rattle.numbers.proofs.Int.{back}
-use Rattle.cell.specs.Refusal.{Answered, answered}
+use Rattle.cell.specs.Refusal.{Answered, answered, andThen}
 use Rattle.job.specs.declared.job.Job.{Job}
 use Rattle.job.specs.Calls.{carryOn}
-use Rattle.threshold.specs.Result.{andThen, Handed}
+use Rattle.threshold.specs.Result.{Handed}
 use Rattle.threshold.specs.Interface.{handedBack, carriedOn}
 use Rattle.threshold.proofs.ResultLaws.{handed-as, handed-refused}
 use Rattle.threshold.proofs.TakenLaws.{no-job, with-job}

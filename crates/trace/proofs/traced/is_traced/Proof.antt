@@ -12,13 +12,13 @@ use mir.Syntax.{w32}
 use mir.Val.{Fits}
 use borrow.Author.Needs.{needs}
 use borrow.Author.Tests.{eq-eqb, ne-eqb, not-true, not-false}
-use Rattle.numbers.specs.Tests.{allBelow}
+use Rattle.numbers.specs.Tests.{allBelow, sameZ}
 use Rattle.numbers.specs.Tabulate.{tabulate}
 use Rattle.numbers.proofs.TestLaws.{and-both, all-below-zero, all-below-more, all-below-fails, all-below-cong}
 use Rattle.numbers.proofs.TabulateLaws.{getD-tabulate}
 use Rattle.function.specs.Witness.{sideSum, countOf}
 use Rattle.types.specs.declared.vector.Vector.{Vector}
-use Rattle.function.specs.Vector.{sameZ, component}
+use Rattle.function.specs.Vector.{component}
 use Rattle.trace.proofs.SizeLaws.{side-sum-lt}
 use Rattle.table.specs.Table.{functionOf}
 use Rattle.trace.proofs.traced.is_traced.Statement.{statement}

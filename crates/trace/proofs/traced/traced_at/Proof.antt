@@ -8,9 +8,10 @@ use mir.Syntax.{w64}
 use mir.Val.{SFits, toZ, ofZ}
 use mir.Facts.{toZ-ofZ, toZ-pos}
 use borrow.Author.Needs.{needs}
+use Rattle.numbers.specs.Tests.{sameZ}
 use Rattle.numbers.proofs.Int.{up, dn, size-add}
 use Rattle.numbers.proofs.Widths.{size-fits, signed-fits-field}
-use Rattle.function.specs.Vector.{sameZ, component}
+use Rattle.function.specs.Vector.{component}
 use Rattle.trace.proofs.SizeLaws.{component-size, same-z-bits}
 use Rattle.trace.proofs.traced.traced_at.Statement.{statement}
 use Rattle.trace.proofs.traced.traced_at.Tie as tie
