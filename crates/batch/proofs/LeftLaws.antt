@@ -9,9 +9,10 @@ use lib.ListN.{length}
 use borrow.Author.Tests.{ltb-true}
 use Rattle.cell.specs.Refusal.{answered, refused}
 use Rattle.codec.specs.Field.{Reading}
-use Rattle.codec.specs.Head.{Head, headAt}
-use Rattle.codec.proofs.HeadLaws.{head-forward}
-use Rattle.reporting.specs.Report.{decided}
+use Rattle.types.specs.declared.table.Table.{Table}
+use Rattle.codec.specs.TableField.{tableRecordAt}
+use Rattle.codec.proofs.TableFieldLaws.{record-read}
+use Rattle.job.specs.Machine.{decided}
 use Rattle.reporting.proofs.RoomLaws.{record-some, refusal-some, last-some}
 use Rattle.batch.specs.declared.progress.Step.{Step}
 use Rattle.batch.specs.declared.progress.Step.the-variants.{Records, Last, Done}
@@ -32,13 +33,13 @@ abbrev Moves : List ℕ → ℕ → Advance → Type 0
 Moves s left a = (1 ≤ length (a .line)) × (linesLeft s (a .next) < left)
 
 module _ (s : List ℕ) (p : Progress) where
-  by-record : (r : Reading Head) → headAt 1 s (p .at) ≡ r → p .at < length s → Moves s (length s - p .at + 2) (advanceBy (p .at) (p .tally) r)
+  by-record : (r : Reading Table) → tableRecordAt s (p .at) ≡ r → p .at < length s → Moves s (length s - p .at + 2) (advanceBy (p .at) (p .tally) r)
   by-record (refused n) e h = (refusal-some (p .tally .records + 1) n, omega arith)
-  by-record (answered f) e h = (record-some (p .tally .records + 1) (decided (f .value .table)), omega (arith, head-forward 1 s (p .at) f e))
+  by-record (answered f) e h = (record-some (p .tally .records + 1) (decided (f .value)), omega (arith, record-read s (p .at) f e .forward))
 
   by-test : (b : Bool) → ltb (p .at) (length s) ≡ b
-      → Moves s (length s - p .at + 2) (pickAdvance b (advanceBy (p .at) (p .tally) (headAt 1 s (p .at))) (lastOf (p .at) (p .tally)))
-  by-test true e = by-record (headAt 1 s (p .at)) refl (ltb-true (p .at) (length s) e)
+      → Moves s (length s - p .at + 2) (pickAdvance b (advanceBy (p .at) (p .tally) (tableRecordAt s (p .at))) (lastOf (p .at) (p .tally)))
+  by-test true e = by-record (tableRecordAt s (p .at)) refl (ltb-true (p .at) (length s) e)
   by-test false e = (last-some (p .tally), omega arith)
 
   by-step : (step : Step) → isDone step ≡ false → Moves s (leftIn step (length s) (p .at)) (advanceIn step s p)

@@ -14,12 +14,14 @@ use Rattle.types.specs.declared.stage.Stage.the-variants.{Open, Found, Looped, 
 use Rattle.job.specs.Sound.{cap}
 use Rattle.codec.specs.Field.{Field, Reading}
 use Rattle.codec.specs.Number.{pickBytes}
-use Rattle.codec.specs.Head.{Head, headAt}
-use Rattle.codec.proofs.HeadLaws.{head-taken, head-next, head-forward}
+use Rattle.types.specs.declared.table.Table.{Table}
+use Rattle.codec.specs.TableField.{tableRecordAt}
+use Rattle.codec.proofs.TableFieldLaws.{record-read}
 use Rattle.reporting.specs.declared.tally.Tally.{Tally}
 use Rattle.reporting.specs.Lines.{lastLine, tooLongLine}
-use Rattle.reporting.specs.Report.{inputMost, decided, noTally, counted, recordThen, reportFrom, report}
-use Rattle.reporting.proofs.DecidedLaws.{decided-capped}
+use Rattle.reporting.specs.Report.{inputMost, noTally, counted, recordThen, reportFrom, report}
+use Rattle.job.specs.Machine.{decided}
+use Rattle.job.proofs.DecidedLaws.{decided-capped}
 use Rattle.batch.specs.declared.progress.Step.{Step}
 use Rattle.batch.specs.declared.progress.Step.the-variants.{Records, Last, Done}
 use Rattle.batch.specs.declared.progress.Progress.{Progress}
@@ -49,8 +51,8 @@ module _ (s : List ℕ) where
   comes-last (suc m) p l e = rw (← append-nil (lastLine (p .tally))) (comes-next m s p (lastOf (p .at) (p .tally)) [] e (comes-done m (p .at) (p .tally)))
 
   -- the record at a position and what comes after it, or its refusal and the last line
-  comes-record : (rest : ℕ → Tally → List ℕ) (m at : ℕ) (t : Tally) (r : Reading Head) → 1 ≤ m → advance s (progress at t Records) ≡ advanceBy at t r
-      → ((f : Field Head) (u : Tally) → r ≡ answered f → Comes m s (progress (f .next) u Records) (rest (f .next) u))
+  comes-record : (rest : ℕ → Tally → List ℕ) (m at : ℕ) (t : Tally) (r : Reading Table) → 1 ≤ m → advance s (progress at t Records) ≡ advanceBy at t r
+      → ((f : Field Table) (u : Tally) → r ≡ answered f → Comes m s (progress (f .next) u Records) (rest (f .next) u))
       → Comes (suc m) s (progress at t Records) (recordThen rest t r)
   unfolding advance
   comes-record rest m at t (refused n) l e later =
@@ -66,14 +68,14 @@ module _ (s : List ℕ) where
   comes (suc left) zero at t a l k = absurd (omega arith)
   comes (suc left) (suc m) at t a l k =
       by (ltb at (length s)) refl
-      (λ f u e. let forward = head-forward 1 s at f e in comes left m (f .next) u (head-next 1 s at f e) (omega arith) (omega arith))
+      (λ f u e. let forward = record-read s at f e .forward in comes left m (f .next) u (record-read s at f e .within) (omega arith) (omega arith))
     where
       rest : ℕ → Tally → List ℕ
       rest = reportFrom left s
 
-      by : (b : Bool) → ltb at (length s) ≡ b → ((f : Field Head) (u : Tally) → headAt 1 s at ≡ answered f → Comes m s (progress (f .next) u Records) (rest (f .next) u))
-          → Comes (suc m) s (progress at t Records) (pickBytes b (recordThen rest t (headAt 1 s at)) (lastLine t))
-      by true e later = comes-record rest m at t (headAt 1 s at) (omega (arith, ltb-true at (length s) e)) (rw e) later
+      by : (b : Bool) → ltb at (length s) ≡ b → ((f : Field Table) (u : Tally) → tableRecordAt s at ≡ answered f → Comes m s (progress (f .next) u Records) (rest (f .next) u))
+          → Comes (suc m) s (progress at t Records) (pickBytes b (recordThen rest t (tableRecordAt s at)) (lastLine t))
+      by true e later = comes-record rest m at t (tableRecordAt s at) (omega (arith, ltb-true at (length s) e)) (rw e) later
       by false e later = comes-last (suc m) (progress at t Records) (omega arith) (rw e)
 
   whole : (m : ℕ) → length s + 2 ≤ m → Comes m s start (reportFrom (length s) s 0 noTally)
@@ -112,17 +114,17 @@ pub bounded-next : (s : List ℕ) (p : Progress) → length s ≤ inputMost → 
 unfolding advance
 bounded-next s p l b = by (p .step)
   where
-    by-record : (r : Reading Head) → headAt 1 s (p .at) ≡ r → Bounded (advanceBy (p .at) (p .tally) r .next)
+    by-record : (r : Reading Table) → tableRecordAt s (p .at) ≡ r → Bounded (advanceBy (p .at) (p .tally) r .next)
     by-record (refused n) e = omega arith
     by-record (answered f) e =
-        let t = f .value .table in
-        bounded-counted p (f .next) (decided t .stage) (decided t .k) b
-        (head-forward 1 s (p .at) f e)
-        (omega (arith, head-next 1 s (p .at) f e))
-        (decided-capped t (head-taken 1 s (p .at) f e))
+        let t = f .value in
+        bounded-counted p (f .next) (decided t .state .stage) (decided t .state .k) b
+        (record-read s (p .at) f e .forward)
+        (omega (arith, record-read s (p .at) f e .within))
+        (decided-capped t (record-read s (p .at) f e .taken))
 
-    by-test : (a : Bool) → Bounded (pickAdvance a (advanceBy (p .at) (p .tally) (headAt 1 s (p .at))) (lastOf (p .at) (p .tally)) .next)
-    by-test true = by-record (headAt 1 s (p .at)) refl
+    by-test : (a : Bool) → Bounded (pickAdvance a (advanceBy (p .at) (p .tally) (tableRecordAt s (p .at))) (lastOf (p .at) (p .tally)) .next)
+    by-test true = by-record (tableRecordAt s (p .at)) refl
     by-test false = omega arith
 
     by : (step : Step) → Bounded (advanceIn step s p .next)

@@ -1,2 +1,4 @@
+-- a report line by line
 pub mod Progress
+-- what filling a buffer with lines gives
 pub mod Filled

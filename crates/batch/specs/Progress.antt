@@ -1,4 +1,5 @@
 -- A report line by line (document 01, "Kinds, Chow, report"). Definitions only. Assumes nothing.
+use mathlib.Core.Path.{_≡_}
 use mathlib.Core.Bool.{Bool, true, false}
 use mathlib.Core.List.{List, [], _++_}
 use Prim.Native.Nat.{ℕ, zero, suc, _+_, _*_, _≤_}
@@ -6,19 +7,27 @@ use lib.Dec.{ltb}
 use lib.ListN.{length}
 use Rattle.cell.specs.Refusal.{answered, refused}
 use Rattle.job.specs.Sound.{cap}
+use Rattle.types.specs.declared.table.Table.{Table}
 use Rattle.codec.specs.Field.{Reading}
-use Rattle.codec.specs.Head.{Head, headAt}
+use Rattle.codec.specs.Written.{Put}
+use Rattle.codec.specs.TableField.{tableRecordAt}
 use Rattle.reporting.specs.declared.tally.Tally.{Tally}
 use Rattle.reporting.specs.Lines.{recordLine, refusalLine, lastLine}
-use Rattle.reporting.specs.Report.{inputMost, decided, noTally, counted}
+use Rattle.job.specs.Machine.{decided}
+use Rattle.reporting.specs.Report.{inputMost, noTally, counted}
 use Rattle.batch.specs.declared.progress.Step.{Step}
 use Rattle.batch.specs.declared.progress.Step.the-variants.{Records, Last, Done}
 use Rattle.batch.specs.declared.progress.Progress.{Progress}
+use Rattle.batch.specs.declared.line.Line.{Line}
 
 -- a line, and how far the report is after it
 pub record Advance : Type 0 where
   pub line : List ℕ
   pub next : Progress
+
+-- a line was made: it stands at the start of the buffer, and the rest is as it was
+abbrev pub Made : Advance → (old new : List ℕ) → Line → Type 0
+Made a old new r = Put old 0 (a .line) new (r .length) × (r .next ≡ a .next)
 
 abbrev pub progress : ℕ → Tally → Step → Progress
 progress at t step = record { at = at; tally = t; step = step }
@@ -42,10 +51,10 @@ pub record Bounded (p : Progress) : Type 0 where
   pub sum : p .tally .sum ≤ cap * p .tally .records
 
 -- the line of the record at a position, or of its refusal
-abbrev pub advanceBy : ℕ → Tally → Reading Head → Advance
+abbrev pub advanceBy : ℕ → Tally → Reading Table → Advance
 advanceBy at t (refused n) = record { line = refusalLine (t .records + 1) n; next = progress at t Last }
 advanceBy at t (answered f) =
-    record { line = recordLine (t .records + 1) (decided (f .value .table)); next = progress (f .next) (counted (decided (f .value .table) .stage) (decided (f .value .table) .k) t) Records }
+    record { line = recordLine (t .records + 1) (decided (f .value)); next = progress (f .next) (counted (decided (f .value) .state .stage) (decided (f .value) .state .k) t) Records }
 
 abbrev pub lastOf : ℕ → Tally → Advance
 lastOf at t = record { line = lastLine t; next = progress at t Done }
@@ -55,7 +64,7 @@ pickAdvance true a b = a
 pickAdvance false a b = b
 
 abbrev pub advanceIn : Step → List ℕ → Progress → Advance
-advanceIn Records s p = pickAdvance (ltb (p .at) (length s)) (advanceBy (p .at) (p .tally) (headAt 1 s (p .at))) (lastOf (p .at) (p .tally))
+advanceIn Records s p = pickAdvance (ltb (p .at) (length s)) (advanceBy (p .at) (p .tally) (tableRecordAt s (p .at))) (lastOf (p .at) (p .tally))
 advanceIn Last s p = lastOf (p .at) (p .tally)
 advanceIn Done s p = record { line = []; next = p }
 

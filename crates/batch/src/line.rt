@@ -3,26 +3,22 @@ use crate::progress::Progress;
 use crate::progress::Step;
 use cell::refusal::Status;
 use job::job::Job;
-use reading::head::read_head;
+use receiving::record::table_at;
 use reporting::line::last_line;
 use reporting::line::record_line;
 use reporting::line::refusal_line;
 use reporting::tally::Tally;
 use reporting::tally::with_record;
 use stepping::decided::decided_by;
-use types::table::Table;
 ghost use mathlib.Core.Path.{_≡_};
 ghost use Prim.Native.Nat.{_≤_};
 ghost use lib.ListN.{length};
 ghost use Rattle.numbers.specs.Tabulate.{Holds};
-ghost use Rattle.lanes.specs.Codes.{stepAt};
-ghost use Rattle.job.specs.Machine.{run, fresh};
-ghost use Rattle.job.specs.Calls.{callBudget};
-ghost use Rattle.codec.specs.Field.{writtenAt};
-ghost use Rattle.codec.specs.Head.{headAt};
+ghost use Rattle.correction.specs.Steps.{stepAt};
+ghost use Rattle.codec.specs.TableField.{tableRecordAt};
 ghost use Rattle.reporting.specs.Lines.{lineRoom};
 ghost use Rattle.reporting.specs.Report.{inputMost, Within};
-ghost use Rattle.batch.specs.Progress.{Bounded, lastOf, advanceBy, advance};
+ghost use Rattle.batch.specs.Progress.{Bounded, Made, lastOf, advanceBy, advance};
 
 // The length of a line, and how far the report is after it.
 pub struct Line {
@@ -33,7 +29,7 @@ pub struct Line {
 // Makes the last line.
 fn ended(at: usize, tally: Tally, out: &mut [u8]) -> Line
     requires { ⌜ Within tally × (lineRoom ≤ length (now out)) ⌝ }
-    ensures { λ r. ⌜ (r .length ≡ length (lastOf at tally .line)) × (r .next ≡ lastOf at tally .next) × (now (out .exit) ≡ writtenAt (now (out .entry)) 0 (lastOf at tally .line)) ⌝ }
+    ensures { λ r. ⌜ Made (lastOf at tally) (now (out .entry)) (now (out .exit)) r ⌝ }
     ensures { λ r. ⌜ r .length ≤ lineRoom ⌝ }
 {
     let length = last_line(out, tally);
@@ -47,28 +43,7 @@ fn ended(at: usize, tally: Tally, out: &mut [u8]) -> Line
     }
 }
 
-// Returns the job of a table of at most eight inputs after the whole call budget. `steps` is the table of steps.
-fn decided_job(table: Table, steps: &[i16; 2048]) -> Job
-    requires { ⌜ (table .n ≤ 8) × Holds stepAt 2048 (now steps) ⌝ }
-    ensures { λ r. ⌜ r ≡ run callBudget (fresh table) ⌝ }
-{
-    let state = decided_by(table, steps);
-    let v = state.v;
-    let s = state.s;
-    let counts = state.counts;
-    let stage = state.stage;
-    Job {
-        table,
-        k: state.k,
-        v,
-        mark: state.mark,
-        s,
-        counts,
-        stage,
-    }
-}
-
-// Makes the line of the record at a position, or of its refusal.
+// Makes the line of the record that the report's reader reaches at a position, or of its refusal.
 fn record_or_refusal(
     input: &[u8],
     at: usize,
@@ -77,11 +52,11 @@ fn record_or_refusal(
     out: &mut [u8],
 ) -> Line
     requires { ⌜ Within tally × (lineRoom ≤ length (now out)) × Holds stepAt 2048 (now steps) ⌝ }
-    ensures { λ r. ⌜ (r .length ≡ length (advanceBy at tally (headAt 1 (now (input .entry)) at) .line)) × (r .next ≡ advanceBy at tally (headAt 1 (now (input .entry)) at) .next) × (now (out .exit) ≡ writtenAt (now (out .entry)) 0 (advanceBy at tally (headAt 1 (now (input .entry)) at) .line)) ⌝ }
+    ensures { λ r. ⌜ Made (advanceBy at tally (tableRecordAt (now (input .entry)) at)) (now (out .entry)) (now (out .exit)) r ⌝ }
     ensures { λ r. ⌜ r .length ≤ lineRoom ⌝ }
 {
-    let head = read_head(input, at, 1);
-    let status = head.status;
+    let record = table_at(input, at);
+    let status = record.status;
     if let Status::Refused(number) = status {
         let length = refusal_line(out, tally.records + 1, number);
         return Line {
@@ -93,14 +68,19 @@ fn record_or_refusal(
             },
         };
     }
-    let job = decided_job(head.table, steps);
+    let table = record.table;
+    let job = Job {
+        table,
+        state: decided_by(table, steps),
+    };
     let length = record_line(out, tally.records + 1, job);
-    let stage = job.stage;
+    let state = job.state;
+    let stage = state.stage;
     Line {
         length,
         next: Progress {
-            at: head.next,
-            tally: with_record(tally, stage, job.k),
+            at: record.next,
+            tally: with_record(tally, stage, state.k),
             step: Step::Records,
         },
     }
@@ -109,7 +89,7 @@ fn record_or_refusal(
 // Makes the next line of the report of an input. `steps` is the table of steps.
 pub fn next_line(input: &[u8], progress: Progress, steps: &[i16; 2048], out: &mut [u8]) -> Line
     requires { ⌜ (length (now input) ≤ inputMost) × Bounded progress × (lineRoom ≤ length (now out)) × Holds stepAt 2048 (now steps) ⌝ }
-    ensures { λ r. ⌜ (r .length ≡ length (advance (now (input .entry)) progress .line)) × (r .next ≡ advance (now (input .entry)) progress .next) × (now (out .exit) ≡ writtenAt (now (out .entry)) 0 (advance (now (input .entry)) progress .line)) ⌝ }
+    ensures { λ r. ⌜ Made (advance (now (input .entry)) progress) (now (out .entry)) (now (out .exit)) r ⌝ }
     ensures { λ r. ⌜ Bounded (r .next) × (r .length ≤ lineRoom) ⌝ }
 {
     let tally = progress.tally;

@@ -2,7 +2,7 @@
 use crate::line::next_line;
 use crate::progress::Progress;
 use crate::progress::is_done;
-use lanes::steps::step_table;
+use correction::steps::step_table;
 use reporting::line::LINE_ROOM;
 ghost use Prim.Native.Nat.{_≤_};
 ghost use lib.ListN.{length};

@@ -3,8 +3,11 @@ use crate::ways;
 use crate::ways::Work;
 use cell::refusal::Status;
 use libc::STDOUT_FILENO;
-use reading::head::read_head;
+use reading::kind::Takes;
+use reading::kind::read_kind;
+use reading::tables::read_table;
 use std::num::wrapping_add_u64;
+use types::kind::Kind;
 use types::stage::Stage;
 
 // The tables, the jobs by stage, the corrections made, the calls of carry-on, and the bytes that jobs were saved in.
@@ -50,18 +53,35 @@ fn with_work(tally: Tally, work: Work) -> Tally {
     next
 }
 
+// Returns the way that a kind stands for in the heads, 0 for none.
+fn way_of(kind: Kind) -> u8 {
+    match kind {
+        Kind::Table => 1,
+        Kind::Gate => 2,
+        Kind::Witness => ways::LAST,
+        Kind::Job => 0,
+        Kind::Refused(_) => 0,
+    }
+}
+
 // Returns how the jobs of the heads ended.
 pub fn of(heads: &[u8]) -> Tally {
     let mut tally = none();
     let mut at: usize = 0;
     let mut left = heads.len();
     while 0 < left {
-        let head = read_head(heads, at, ways::LAST);
+        let field = read_kind(heads, at, Takes::Every);
+        let kind = field.kind;
+        let way = way_of(kind);
+        if way == 0 {
+            return tally;
+        }
+        let head = read_table(heads, field.next);
         let status = head.status;
         if let Status::Refused(_) = status {
             return tally;
         }
-        tally = with_work(tally, ways::carried_on(head.kind, head.table));
+        tally = with_work(tally, ways::carried_on(way, head.table));
         at = head.next;
         left = left - 1;
     }

@@ -1,9 +1,9 @@
 // The ways in which the fresh job of a table is carried on by 100,000 corrections or to its end: 1 in one call, 2 in calls of 64, and 3
 // in calls of 64 with the job saved and read back after each that leaves it open.
 use job::job::Job;
-use records::reader::read;
-use samples::parts::first_bytes;
+use receiving::record::read;
 use std::num::wrapping_add_u64;
+use testing::parts::first_bytes;
 use types::stage::Stage;
 use types::table::Table;
 use writers::write::Written;
@@ -35,7 +35,8 @@ struct Saved {
 
 // Whether a job is open.
 fn is_open(job: Job) -> bool {
-    let stage = job.stage;
+    let state = job.state;
+    let stage = state.stage;
     match stage {
         Stage::Open => true,
         Stage::Found => false,
@@ -75,10 +76,11 @@ fn saved_and_read(job: Job, out: &mut [u8]) -> Saved {
 fn in_one_call(job: Job) -> Work {
     let carried = job.carry_on(Job::CALL_BUDGET);
     let job = carried.job;
-    let stage = job.stage;
+    let state = job.state;
+    let stage = state.stage;
     Work {
         stage,
-        k: job.k,
+        k: state.k,
         calls: 1,
         bytes: 0,
     }
@@ -103,10 +105,11 @@ fn in_small_calls(fresh: Job, is_saved: bool) -> Work {
             bytes = wrapping_add_u64(bytes, saved.bytes);
         }
     }
-    let stage = job.stage;
+    let state = job.state;
+    let stage = state.stage;
     Work {
         stage,
-        k: job.k,
+        k: state.k,
         calls,
         bytes,
     }

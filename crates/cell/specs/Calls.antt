@@ -9,10 +9,11 @@ use Rattle.types.specs.declared.table.Table.{Table}
 use Rattle.types.specs.declared.gate.Gate.{Gate}
 use Rattle.types.specs.declared.witness.Witness.{Witness}
 use Rattle.types.specs.declared.inputs.Place.{Place}
-use Rattle.table.specs.Table.{inputLimit, rowsOf, value, spareSet}
-use Rattle.table.specs.Gate.{realises, beyond}
-use Rattle.function.specs.Gate.{gateTrue}
-use Rattle.table.specs.Witness.{balances, unfit}
+use Rattle.table.specs.Table.{inputLimit, rowsOf, value, functionOf, spareSet}
+use Rattle.table.specs.Gate.{beyond}
+use Rattle.function.specs.Gate.{gateTrue, realises}
+use Rattle.table.specs.Witness.{unfit}
+use Rattle.function.specs.Witness.{countOf, balances}
 use Rattle.table.specs.Inputs.{kindsOf}
 use Rattle.table.specs.Chow.{chowOf}
 use Rattle.cell.specs.Refusal.{Rule, rule, Answered, answered, checked}
@@ -50,6 +51,22 @@ tableRules t others = tooManyInputs (t .n) ∷ spareBits t ∷ others
 abbrev pub tableChecked : Table → Answered (Unit {0})
 tableChecked t = checked (tableRules t []) (answered tt)
 
+-- the rules of a table with a gate, before the others of a call: 2, 3, 7. The two reasons for 2 come before 3, in either order
+abbrev pub gateRules : Table → Gate → List Rule → List Rule
+gateRules t g others = otherInputs t g ∷ tableRules t (gateRange g ∷ others)
+
+-- the test of a table with a gate alone
+abbrev pub gateChecked : Table → Gate → Answered (Unit {0})
+gateChecked t g = checked (gateRules t g []) (answered tt)
+
+-- the rules of a table with a witness, before the others of a call: 2, 3, 8
+abbrev pub witnessRules : Table → Witness → List Rule → List Rule
+witnessRules t w others = tableRules t (witnessRange t w ∷ others)
+
+-- the test of a table with a witness alone
+abbrev pub witnessChecked : Table → Witness → Answered (Unit {0})
+witnessChecked t w = checked (witnessRules t w []) (answered tt)
+
 -- the value of a table on a row: 2, 3, 14
 abbrev pub tableValueRules : Table → ℕ → List Rule
 tableValueRules t r = tableRules t (pastRows (t .n) r ∷ [])
@@ -64,19 +81,19 @@ gateValueRules g r = tooManyInputs (g .n) ∷ gateRange g ∷ pastRows (g .n) r 
 abbrev pub gateValue : Gate → ℕ → Answered Bool
 gateValue g r = checked (gateValueRules g r) (answered (gateTrue (g .weights) (g .threshold) (level 2 r)))
 
--- the checker on a table with a gate: 2, 3, 7. The two reasons for 2 come before 3, in either order
+-- the checker on a table with a gate: 2, 3, 7
 abbrev pub checkGateRules : Table → Gate → List Rule
-checkGateRules t g = otherInputs t g ∷ tableRules t (gateRange g ∷ [])
+checkGateRules t g = gateRules t g []
 
 abbrev pub checkGate : Table → Gate → Answered Bool
-checkGate t g = checked (checkGateRules t g) (answered (realises t g))
+checkGate t g = checked (checkGateRules t g) (answered (realises (g .weights) (g .threshold) (functionOf t)))
 
 -- the checker on a table with a witness: 2, 3, 8
 abbrev pub checkWitnessRules : Table → Witness → List Rule
-checkWitnessRules t w = tableRules t (witnessRange t w ∷ [])
+checkWitnessRules t w = witnessRules t w []
 
 abbrev pub checkWitness : Table → Witness → Answered Bool
-checkWitness t w = checked (checkWitnessRules t w) (answered (balances t w))
+checkWitness t w = checked (checkWitnessRules t w) (answered (balances (functionOf t) (countOf (w .counts))))
 
 -- the kinds of all eight places: 2, 3
 abbrev pub inputKinds : Table → Answered (List Place)

@@ -1,3 +1,6 @@
+-- rules in their order, and the number of the first broken one
 pub mod Refusal
+-- what the code's answers stand for
 pub mod Answers
+-- each call's rules in their order, and its value
 pub mod Calls

@@ -1,32 +1,58 @@
-// The checker: it takes a table with a gate or a witness, from anyone, and says yes or no.
+// The checker: it takes a table with a gate or a witness, from anyone, and says yes or no. The tests of their formats, with which it starts,
+// stand first: whoever takes a gate or a witness with its table starts with them too.
 use crate::refusal::Answer;
 use crate::refusal::Status;
 use crate::refusal::as_answer;
 use crate::refusal::table_status;
+use sides::balance::is_balanced;
 use table::gate::gate_beyond;
 use table::gate::gate_realises;
-use table::witness::is_balanced;
 use table::witness::witness_unfit;
 use types::gate::Gate;
 use types::table::Table;
 use types::witness::Witness;
 ghost use mathlib.Core.Path.{_≡_};
-ghost use Rattle.cell.specs.Answers.{answer};
-ghost use Rattle.cell.specs.Calls.{checkGate, checkWitness};
+ghost use Rattle.cell.specs.Answers.{answer, status};
+ghost use Rattle.cell.specs.Calls.{gateChecked, witnessChecked, checkGate, checkWitness};
+
+// Returns whether the table and the gate beside it keep their formats, or their refusal: 2, 3, then 7.
+pub fn gate_status(table: Table, gate: Gate) -> Status
+    ensures { λ r. ⌜ r ≡ status (gateChecked table gate) ⌝ }
+{
+    if gate.n != table.n {
+        return Status::Refused(2);
+    }
+    let status = table_status(table);
+    if let Status::Refused(number) = status {
+        return Status::Refused(number);
+    }
+    if gate_beyond(gate) {
+        return Status::Refused(7);
+    }
+    Status::Done
+}
+
+// Returns whether the table and the witness beside it keep their formats, or their refusal: 2, 3, then 8.
+pub fn witness_status(table: Table, witness: Witness) -> Status
+    ensures { λ r. ⌜ r ≡ status (witnessChecked table witness) ⌝ }
+{
+    let status = table_status(table);
+    if let Status::Refused(number) = status {
+        return Status::Refused(number);
+    }
+    if witness_unfit(table, witness) {
+        return Status::Refused(8);
+    }
+    Status::Done
+}
 
 // Says whether the gate agrees with the table on every row. Refusals: 2, 3, 7.
 pub fn check_gate(table: Table, gate: Gate) -> Answer
     ensures { λ r. ⌜ r ≡ answer (checkGate table gate) ⌝ }
 {
-    if gate.n != table.n {
-        return Answer::Refused(2);
-    }
-    let status = table_status(table);
+    let status = gate_status(table, gate);
     if let Status::Refused(number) = status {
         return Answer::Refused(number);
-    }
-    if gate_beyond(gate) {
-        return Answer::Refused(7);
     }
     as_answer(gate_realises(table, gate))
 }
@@ -35,12 +61,9 @@ pub fn check_gate(table: Table, gate: Gate) -> Answer
 pub fn check_witness(table: Table, witness: Witness) -> Answer
     ensures { λ r. ⌜ r ≡ answer (checkWitness table witness) ⌝ }
 {
-    let status = table_status(table);
+    let status = witness_status(table, witness);
     if let Status::Refused(number) = status {
         return Answer::Refused(number);
-    }
-    if witness_unfit(table, witness) {
-        return Answer::Refused(8);
     }
     as_answer(is_balanced(table, witness))
 }

@@ -1,7 +1,7 @@
 // Chow's parameters of a table.
 use crate::refusal::Status;
 use crate::refusal::table_status;
-use table::chow::all_chow;
+use sides::chow::all_chow;
 use types::table::Table;
 ghost use mathlib.Core.Path.{_≡_};
 ghost use Rattle.cell.specs.Answers.{chow};

@@ -1,4 +1,4 @@
--- The loop of `chunk` beside the machine: a turn of the loop is a step, and where the loop ends the state is the machine's. Assumes nothing.
+-- The loop of `chunk` beside the machine: a pass of the loop is a step, and where the loop ends the state is the machine's. Assumes nothing.
 use mathlib.Core.Path.{_≡_, refl, sym, _∙_, ap, subst}
 use mathlib.Core.Logic.{_≢_}
 use mathlib.Core.Bool.{Bool, true, false}
@@ -13,7 +13,7 @@ use lib.IntN.{ℤ, pos}
 use Rattle.numbers.proofs.TabulateLaws.{filled}
 use Rattle.types.specs.declared.table.Table.{Table}
 use Rattle.table.specs.Table.{rows, value, functionOf}
-use Rattle.table.specs.Inputs.{found}
+use Rattle.table.specs.Inputs.{lowestOf}
 use Rattle.table.proofs.TableLaws.{rows-le}
 use Rattle.types.specs.declared.vector.Vector.{Vector}
 use Rattle.function.specs.Failing.{failing}
@@ -37,7 +37,7 @@ use Rattle.state.proofs.MachineLaws.{marked-power, marked-other}
 use Rattle.state.proofs.StepSound.{with-stage-same}
 use Rattle.state.proofs.StandsLaws.{Stands, stands-found, stands-row, stands-open, stands-looped, moved, stands-next, Bounded, stands-bounded}
 use Rattle.chunks.proofs.ClearLaws.{uncounted, cleared-zeros}
-use Rattle.chunks.proofs.HeldLaws.{withVectors, marking, Held, Searches, Corrects, Compares, Restores}
+use Rattle.chunks.proofs.FollowLaws.{withVectors, marking, Follows, Searches, Corrects, Compares, Restores}
 use Rattle.function.specs.Function.{level}
 
 -- what `chunk` asks of its state and its budget
@@ -48,60 +48,60 @@ pub record Begun (t : Table) (start : State) (budget : ℕ) : Type 0 where
   pub few : budget ≤ 2000
 
 -- `made` of the budget's steps are made, and `next` is what the search by v found
-pub record Turned (t : Table) (start : State) (budget made : ℕ) (x : State) (sums copy : List ℤ) (next : ℕ) : Type 0 where
-  pub held : Held t start made x sums copy
-  pub search : next ≡ foundCode t (failing (functionOf t) (held .v))
+pub record Passed (t : Table) (start : State) (budget made : ℕ) (x : State) (sums copy : List ℤ) (next : ℕ) : Type 0 where
+  pub follows : Follows t start made x sums copy
+  pub search : next ≡ foundCode t (failing (functionOf t) (follows .v))
   pub within : made ≤ budget
 
 -- the loop's invariant: `next` is what the search found, or 513 where v is s again and the state is looped
 pub record Going (t : Table) (start : State) (budget made : ℕ) (x : State) (sums copy : List ℤ) (next : ℕ) : Type 0 where
-  pub turned : next ≤ 512 → Turned t start budget made x sums copy next
+  pub passed : next ≤ 512 → Passed t start budget made x sums copy next
   pub closed : next ≡ 513 → (r : State) → Restores x sums copy Stage′.Looped r → r ≡ run (functionOf t) budget start
   pub within : made ≤ budget
   pub known : next ≤ 513
 
 module _ {t : Table} {start : State} {budget : ℕ} (b : Begun t start budget) where
-  module _ {m : ℕ} {x : State} {sums copy : List ℤ} (h : m ≤ budget) (c : Held t start m x sums copy) where
+  module _ {m : ℕ} {x : State} {sums copy : List ℤ} (h : m ≤ budget) (c : Follows t start m x sums copy) where
     -- no number of the loop's state wraps in a step
     bounded : Bounded t (withVectors (c .v) (c .s) x)
     bounded = let few : start .k + m ≤ cap = omega (arith, b .capped) in stands-bounded (b .inputs) (b .sound) few (c .stands)
 
     -- the sums fit their places
-    pub held-narrow : Narrow 32000 sums × (getD sums 32 (pos 0) ≡ pos 0)
-    held-narrow =
+    pub follows-narrow : Narrow 32000 sums × (getD sums 32 (pos 0) ≡ pos 0)
+    follows-narrow =
         subst (λ (l : List ℤ). Narrow 32000 l × (getD l 32 (pos 0) ≡ pos 0)) (sym (c .current))
         (sums-narrow (c .v) 32000 (bounded .shaped .weights) (omega (arith, c .small, b .few)), sums-first (c .v))
 
     -- the search by the sums is the search by v
-    pub held-turned : {next : ℕ} → Searches t sums next → Turned t start budget m x sums copy next
-    held-turned search = record {
-      held = c;
+    pub follows-passed : {next : ℕ} → Searches t sums next → Passed t start budget m x sums copy next
+    follows-passed search = record {
+      follows = c;
       search = search (x .k) (c .v) (bounded .shaped .weights) (bounded .current) (c .current);
       within = h;
     }
 
-  module _ {m : ℕ} {x : State} {sums copy : List ℤ} {next : ℕ} (turn : Turned t start budget m x sums copy next) where
+  module _ {m : ℕ} {x : State} {sums copy : List ℤ} {next : ℕ} (pass : Passed t start budget m x sums copy next) where
     abbrev v : Vector
-    v = turn .held .v
+    v = pass .follows .v
 
     abbrev s : Vector
-    s = turn .held .s
+    s = pass .follows .s
 
     abbrev stands : Stands t start m (withVectors v s x)
-    stands = turn .held .stands
+    stands = pass .follows .stands
 
-    pub turned-bounded : Bounded t (withVectors v s x)
-    turned-bounded = bounded (turn .within) (turn .held)
+    pub passed-bounded : Bounded t (withVectors v s x)
+    passed-bounded = bounded (pass .within) (pass .follows)
 
     -- the state with its vectors, in a stage
     restored : {stage : Stage} {r : State} → Restores x sums copy stage r → r ≡ withStage stage (withVectors v s x)
     restored restores =
-        let shaped = turned-bounded .shaped in
-        restores v s (shaped .weights) (shaped .copied) (turn .held .current) (turn .held .copied)
+        let shaped = passed-bounded .shaped in
+        restores v s (shaped .weights) (shaped .copied) (pass .follows .current) (pass .follows .copied)
 
     -- what the search found is at most 512
-    turned-most : next ≤ 512
-    turned-most = by (failing (functionOf t) v) refl (turn .search)
+    passed-most : next ≤ 512
+    passed-most = by (failing (functionOf t) v) refl (pass .search)
       where
         by : (o : Option ℕ) → failing (functionOf t) v ≡ o → next ≡ foundCode t o → next ≤ 512
         by none f g = omega arith
@@ -110,18 +110,18 @@ module _ {t : Table} {start : State} {budget : ℕ} (b : Begun t start budget) w
             omega (arith, code-below (value t r) r row)
 
     -- so the loop goes on
-    pub turned-going : Going t start budget m x sums copy next
-    turned-going = record {
-      turned = λ h. turn;
-      closed = λ e. absurd (omega (arith, turned-most));
-      within = turn .within;
-      known = omega (arith, turned-most);
+    pub passed-going : Going t start budget m x sums copy next
+    passed-going = record {
+      passed = λ h. pass;
+      closed = λ e. absurd (omega (arith, passed-most));
+      within = pass .within;
+      known = omega (arith, passed-most);
     }
 
     -- where no row is found, the state is found, and stays so
-    pub turned-found : {r : State} → next ≡ 512 → Restores x sums copy Stage′.Found r → r ≡ run (functionOf t) budget start
-    turned-found is restores =
-        restored restores ∙ stands-found stands budget (turn .within) (ap found (no-row t v (turn .search) (b .inputs) is))
+    pub passed-found : {r : State} → next ≡ 512 → Restores x sums copy Stage′.Found r → r ≡ run (functionOf t) budget start
+    passed-found is restores =
+        restored restores ∙ stands-found stands budget (pass .within) (ap lowestOf (no-row t v (pass .search) (b .inputs) is))
 
     module _ (other : next ≢ 512) where
       abbrev row : ℕ
@@ -130,39 +130,39 @@ module _ {t : Table} {start : State} {budget : ℕ} (b : Begun t start budget) w
       abbrev sign : Bool
       sign = value t row
 
-      row-found : found (failing (functionOf t) v) ≡ found (some row)
-      row-found = ap found (row-is t v (turn .search) other .0)
+      row-found : lowestOf (failing (functionOf t) v) ≡ lowestOf (some row)
+      row-found = ap lowestOf (row-is t v (pass .search) other .0)
 
       coded : next ≡ rowCode sign row
-      coded = row-is t v (turn .search) other .1
+      coded = row-is t v (pass .search) other .1
 
       -- the row that is found is one of the 256
-      pub turned-row : next / 2 < 256
-      turned-row = omega (arith, stands-row stands row-found, rows-le (b .inputs))
+      pub passed-row : next / 2 < 256
+      passed-row = omega (arith, stands-row stands row-found, rows-le (b .inputs))
 
       -- a mark clears the counts of the table's rows, and the others are 0
-      pub turned-cleared : {counts : List ℕ} → counts ≡ filled uncounted (oneMore row (x .counts)) (rows t) → counts ≡ zeros
-      turned-cleared e =
+      pub passed-cleared : {counts : List ℕ} → counts ≡ filled uncounted (oneMore row (x .counts)) (rows t) → counts ≡ zeros
+      passed-cleared e =
           e
-          ∙ cleared-zeros (oneMore row (x .counts)) (rows t) (length-one-more row (x .counts) ∙ turned-bounded .shaped .counts) (rows-le (b .inputs))
+          ∙ cleared-zeros (oneMore row (x .counts)) (rows t) (length-one-more row (x .counts) ∙ passed-bounded .shaped .counts) (rows-le (b .inputs))
           (λ r past.
           one-more-other row r (x .counts) (λ e. omega (arith, stands-row stands row-found))
-          ∙ turned-bounded .past r past)
+          ∙ passed-bounded .past r past)
 
       -- the state is then the machine's
-      pub turned-open : {r : State} → budget ≤ m → Restores x sums copy Stage′.Open r → r ≡ run (functionOf t) budget start
-      turned-open all restores =
+      pub passed-open : {r : State} → budget ≤ m → Restores x sums copy Stage′.Open r → r ≡ run (functionOf t) budget start
+      passed-open all restores =
           restored restores
           ∙ with-stage-same Stage′.Open (withVectors v s x) (stands .stage)
           ∙ stands-open stands row-found
-          ∙ ap (λ (n : ℕ). run (functionOf t) n start) (omega (arith, turn .within))
+          ∙ ap (λ (n : ℕ). run (functionOf t) n start) (omega (arith, pass .within))
 
       -- the vector after the correction by the row
       abbrev u : Vector
       u = correctedBy sign (level 2 row) v
 
       u-weights : length (u .a) ≡ 8
-      u-weights = length-corrected sign (level 2 row) v ∙ turned-bounded .shaped .weights
+      u-weights = length-corrected sign (level 2 row) v ∙ passed-bounded .shaped .weights
 
       -- the state after the correction, but for its vectors
       abbrev after : State
@@ -170,10 +170,10 @@ module _ {t : Table} {start : State} {budget : ℕ} (b : Begun t start budget) w
 
       module _ {later : List ℤ} (w : Corrects sums next later) where
         u-sums : later ≡ vectorSums u
-        u-sums = w v sign row (turned-bounded .shaped .weights) turned-row coded (turn .held .current)
+        u-sums = w v sign row (passed-bounded .shaped .weights) passed-row coded (pass .follows .current)
 
         u-small : magnitude u ≤ 14000 + 9 * (m + 1)
-        u-small = omega (arith, magnitude-corrected sign row v (turned-bounded .shaped .weights), turn .held .small)
+        u-small = omega (arith, magnitude-corrected sign row v (passed-bounded .shaped .weights), pass .follows .small)
 
         module _ {same : Bool} (compares : Compares t later copy same) where
           -- to compare the sums is to compare the vector with s
@@ -181,25 +181,25 @@ module _ {t : Table} {start : State} {budget : ℕ} (b : Begun t start budget) w
           compared =
               let k = x .k in
               let n = t .n in
-              let was = in-range-correct k n (v .a) (v .b) .0 (turned-bounded .current) in
-              let kept = in-range-correct k n (s .a) (s .b) .0 (turned-bounded .copied) in
-              compares (k + 1) u s u-weights (turned-bounded .shaped .copied)
+              let was = in-range-correct k n (v .a) (v .b) .0 (passed-bounded .current) in
+              let kept = in-range-correct k n (s .a) (s .b) .0 (passed-bounded .copied) in
+              compares (k + 1) u s u-weights (passed-bounded .shaped .copied)
               (in-range-correct (k + 1) n (u .a) (u .b) .1
-              (row-in-range k n sign row v (stands-row stands row-found) (turned-bounded .shaped .weights) was))
+              (row-in-range k n sign row v (stands-row stands row-found) (passed-bounded .shaped .weights) was))
               (in-range-correct (k + 1) n (s .a) (s .b) .1 (in-range-wider (k + 1) (omega arith) kept))
-              u-sums (turn .held .copied)
+              u-sums (pass .follows .copied)
 
           -- back at s the state is looped, and stays so
-          turned-looped : {r : State} → m < budget → same ≡ true → Restores after later copy Stage′.Looped r → r ≡ run (functionOf t) budget start
-          turned-looped more is restores =
-              restores u s u-weights (turned-bounded .shaped .copied) u-sums (turn .held .copied)
+          passed-looped : {r : State} → m < budget → same ≡ true → Restores after later copy Stage′.Looped r → r ≡ run (functionOf t) budget start
+          passed-looped more is restores =
+              restores u s u-weights (passed-bounded .shaped .copied) u-sums (pass .follows .copied)
               ∙ stands-looped stands row-found refl refl budget more (sym compared ∙ is)
 
-          pub turned-closed : {y : State} {copies : List ℤ} {code : ℕ} → m < budget → same ≡ true → y ≡ after → copies ≡ copy → code ≡ 513
+          pub passed-closed : {y : State} {copies : List ℤ} {code : ℕ} → m < budget → same ≡ true → y ≡ after → copies ≡ copy → code ≡ 513
               → Going t start budget (m + 1) y later copies code
-          turned-closed more is e f marks = rw (e, f, marks) record {
-            turned = λ h. absurd (omega arith);
-            closed = λ z r restores. turned-looped more is restores;
+          passed-closed more is e f marks = rw (e, f, marks) record {
+            passed = λ h. absurd (omega arith);
+            closed = λ z r restores. passed-looped more is restores;
             within = omega arith;
             known = omega arith;
           }
@@ -209,9 +209,9 @@ module _ {t : Table} {start : State} {budget : ℕ} (b : Begun t start budget) w
             apart = sym compared ∙ differs
 
             -- elsewhere the loop goes on: at a mark the sums of v are those of s too
-            pub turned-marked : {y : State} {copies : List ℤ} → eqb (highest (x .k + 1)) (x .k + 1) ≡ true → y ≡ marking after
-                → copies ≡ later → Held t start (m + 1) y later copies
-            turned-marked power is same = rw (is, same) record {
+            pub passed-marked : {y : State} {copies : List ℤ} → eqb (highest (x .k + 1)) (x .k + 1) ≡ true → y ≡ marking after
+                → copies ≡ later → Follows t start (m + 1) y later copies
+            passed-marked power is same = rw (is, same) record {
               v = u;
               s = u;
               current = u-sums;
@@ -221,13 +221,13 @@ module _ {t : Table} {start : State} {budget : ℕ} (b : Begun t start budget) w
             }
 
             -- and else those of s are as they were
-            pub turned-other : {y : State} {copies : List ℤ} → eqb (highest (x .k + 1)) (x .k + 1) ≡ false → y ≡ after
-                → copies ≡ copy → Held t start (m + 1) y later copies
-            turned-other power is same = rw (is, same) record {
+            pub passed-other : {y : State} {copies : List ℤ} → eqb (highest (x .k + 1)) (x .k + 1) ≡ false → y ≡ after
+                → copies ≡ copy → Follows t start (m + 1) y later copies
+            passed-other power is same = rw (is, same) record {
               v = u;
               s = s;
               current = u-sums;
-              copied = turn .held .copied;
+              copied = pass .follows .copied;
               stands = stands-next stands row-found refl refl apart (sym (marked-other (moved row u (withVectors v s x)) power));
               small = u-small;
             }
@@ -240,8 +240,8 @@ module _ {t : Table} {start : State} {budget : ℕ} (b : Begun t start budget) w
     where
       by : Dec (next ≤ 511) → Dec (next ≤ 512) → r ≡ run (functionOf t) budget start
       by (yes row) _ =
-          turned-open (g .turned (omega arith)) (λ e. omega arith) (all (omega arith)) (subst (λ (y : Stage). Restores x sums copy y r) (ends .0 (omega arith)) restores)
+          passed-open (g .passed (omega arith)) (λ e. omega arith) (all (omega arith)) (subst (λ (y : Stage). Restores x sums copy y r) (ends .0 (omega arith)) restores)
       by (no more) (yes last) =
-          turned-found (g .turned last) (omega (arith, more)) (subst (λ (y : Stage). Restores x sums copy y r) (ends .1 (omega (arith, more))) restores)
+          passed-found (g .passed last) (omega (arith, more)) (subst (λ (y : Stage). Restores x sums copy y r) (ends .1 (omega (arith, more))) restores)
       by (no more) (no past) =
           g .closed (omega (arith, past, g .known)) r (subst (λ (y : Stage). Restores x sums copy y r) (ends .2 (omega (arith, past, g .known))) restores)

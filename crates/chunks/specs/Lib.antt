@@ -1,1 +1,2 @@
+-- a state taken apart for the fast form: its core and its counts
 pub mod Core

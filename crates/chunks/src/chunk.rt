@@ -1,14 +1,14 @@
 // A chunk of steps in the fast form: the vectors are sums in places of 16 bits, and become vectors again at its end.
 use crate::core::Core;
-use lanes::correction::correct;
-use lanes::keys::lane_values;
-use lanes::keys::store_keys;
-use lanes::keys::store_ones;
-use lanes::search::lowest;
+use correction::correction::correct;
 use lanes::sums::same_sums;
 use lanes::sums::sums_of;
 use lanes::sums::vector_of;
 use machine::power::top_power;
+use search::keys::lane_values;
+use search::keys::store_keys;
+use search::keys::store_ones;
+use search::search::lowest;
 use table::table::row_count;
 use types::stage::Stage;
 use types::table::Table;
@@ -18,7 +18,7 @@ ghost use Prim.Native.Nat.{_+_, _≤_, _<_};
 ghost use lib.ListN.{length, drop};
 ghost use Rattle.numbers.specs.Tabulate.{tabulate, Holds};
 ghost use Rattle.lanes.specs.Sums.{magnitude};
-ghost use Rattle.lanes.specs.Codes.{stepAt};
+ghost use Rattle.correction.specs.Steps.{stepAt};
 ghost use Rattle.state.specs.Machine.{run};
 ghost use Rattle.state.specs.Sound.{cap, Sound};
 ghost use Rattle.chunks.specs.Core.{stateOf};

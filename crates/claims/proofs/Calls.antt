@@ -94,19 +94,19 @@ reply-job m c = by (judged (callRules m c))
 
 -- ---- a call keeps soundness
 
-below-cap : (m : Job) (b : ℕ) → NoneBroken (budgetRange b ∷ pastCap m b ∷ []) → m .k + b ≤ cap
-below-cap m b (also range (also past kept)) = ltb-false cap (m .k + b) past
+below-cap : (m : Job) (b : ℕ) → NoneBroken (budgetRange b ∷ pastCap m b ∷ []) → m .state .k + b ≤ cap
+below-cap m b (also range (also past kept)) = ltb-false cap (m .state .k + b) past
 
 -- an accepted carry-on of an open job stays within the cap
-carry-below : (m : Job) (b : ℕ) → m .stage ≡ Open → NoneBroken (callRules m (carryOnBy b)) → m .k + b ≤ cap
+carry-below : (m : Job) (b : ℕ) → m .state .stage ≡ Open → NoneBroken (callRules m (carryOnBy b)) → m .state .k + b ≤ cap
 carry-below m b e kept = below-cap m b (subst (λ (x : Stage). NoneBroken (budgetRange b ∷ ofOpen x (pastCap m b ∷ []))) e (job-others-kept m kept))
 
 -- the job of an accepted call is sound
 kept-run-sound : (m : Job) (c : Call) → m .table .n ≤ 8 → Sound m → NoneBroken (callRules m c) → Sound (run (budgetOf c) m)
 kept-run-sound m (saveAndRead buffer) few sound kept = subst Sound (sym (run-zero m)) sound
-kept-run-sound m (carryOnBy b) few sound kept = by (open-or-ended (m .stage))
+kept-run-sound m (carryOnBy b) few sound kept = by (open-or-ended (m .state .stage))
   where
-    by : Dec (m .stage ≡ Open) → Sound (run b m)
+    by : Dec (m .state .stage ≡ Open) → Sound (run b m)
     by (yes e) = run-sound-from m few sound b (carry-below m b e kept)
     by (no h) = subst Sound (sym (run-ended b m h)) sound
 
@@ -138,10 +138,10 @@ carry-is m b = by (judged rules)
 
     by : Judged rules → called m (carryOnBy b) ≡ machineReply m (carryOnBy b)
     by (inl kept) =
-        ap (λ (a : Answered Job). afterCarry (carried m a)) (carry-in (m .stage) m b (run-ended b m) ∙ none-broken-answered rules (answered (run b m)) kept)
+        ap (λ (a : Answered Job). afterCarry (carried m a)) (carry-in (m .state .stage) m b (run-ended b m) ∙ none-broken-answered rules (answered (run b m)) kept)
         ∙ sym (reply-kept m (carryOnBy b) kept)
     by (inr (n, first)) =
-        ap (λ (a : Answered Job). afterCarry (carried m a)) (carry-in (m .stage) m b (run-ended b m) ∙ first-broken-refused rules (answered (run b m)) n first)
+        ap (λ (a : Answered Job). afterCarry (carried m a)) (carry-in (m .state .stage) m b (run-ended b m) ∙ first-broken-refused rules (answered (run b m)) n first)
         ∙ sym (reply-broken m (carryOnBy b) n first)
 
 module _ (read-back : (j : Job) → length (j .table .bytes) ≡ 32 → ReadsBack (ofJob j)) where

@@ -30,28 +30,28 @@ ended-call Looped j b h = refl
 ended-call Binate j b h = refl
 
 -- an open job goes by 2, 3, 9, 10 and 11
-pub carry-on-open : (j : Job) (b : ℕ) → j .stage ≡ Open → ByRules (jobRules j (budgetRange b ∷ pastCap j b ∷ [])) (run b j) (carryOn j b)
+pub carry-on-open : (j : Job) (b : ℕ) → j .state .stage ≡ Open → ByRules (jobRules j (budgetRange b ∷ pastCap j b ∷ [])) (run b j) (carryOn j b)
 carry-on-open j b e =
-    subst (ByRules (jobRules j (budgetRange b ∷ pastCap j b ∷ [])) (run b j)) (sym (open-call (j .stage) j b e)) (by-rules (jobRules j (budgetRange b ∷ pastCap j b ∷ [])) (run b j))
+    subst (ByRules (jobRules j (budgetRange b ∷ pastCap j b ∷ [])) (run b j)) (sym (open-call (j .state .stage) j b e)) (by-rules (jobRules j (budgetRange b ∷ pastCap j b ∷ [])) (run b j))
 
 -- an ended job goes by 2, 3, 9 and 10
-pub carry-on-ended : (j : Job) (b : ℕ) → j .stage ≢ Open → ByRules (jobRules j (budgetRange b ∷ [])) j (carryOn j b)
+pub carry-on-ended : (j : Job) (b : ℕ) → j .state .stage ≢ Open → ByRules (jobRules j (budgetRange b ∷ [])) j (carryOn j b)
 carry-on-ended j b h =
-    subst (ByRules (jobRules j (budgetRange b ∷ [])) j) (sym (ended-call (j .stage) j b h)) (by-rules (jobRules j (budgetRange b ∷ [])) j)
+    subst (ByRules (jobRules j (budgetRange b ∷ [])) j) (sym (ended-call (j .state .stage) j b h)) (by-rules (jobRules j (budgetRange b ∷ [])) j)
 
 -- an accepted call gives the machine's job: an ended job runs no further
 pub carried-on : (j next : Job) (b : ℕ) → carryOn j b ≡ answered next → next ≡ run b j
-carried-on j next b e = by (open-or-ended (j .stage))
+carried-on j next b e = by (open-or-ended (j .state .stage))
   where
-    by : Dec (j .stage ≡ Open) → next ≡ run b j
+    by : Dec (j .state .stage ≡ Open) → next ≡ run b j
     by (yes o) = sym (carry-on-open j b o .value next .0 e .1)
     by (no h) = sym (carry-on-ended j b h .value next .0 e .1) ∙ sym (run-ended b j h)
 
 -- the corrections made are the growth of K
-pub growth : (j next : Job) (b : ℕ) → carryOn j b ≡ answered next → carried j (carryOn j b) .made + j .k ≡ (run b j) .k
+pub growth : (j next : Job) (b : ℕ) → carryOn j b ≡ answered next → carried j (carryOn j b) .made + j .state .k ≡ (run b j) .state .k
 growth j next b e =
-    let made : carried j (carryOn j b) .made ≡ next .k - j .k = ap (λ (x : Answered Job). carried j x .made) e in
-    let same : next .k ≡ (run b j) .k = ap (λ (x : Job). x .k) (carried-on j next b e) in
+    let made : carried j (carryOn j b) .made ≡ next .state .k - j .state .k = ap (λ (x : Answered Job). carried j x .made) e in
+    let same : next .state .k ≡ (run b j) .state .k = ap (λ (x : Job). x .state .k) (carried-on j next b e) in
     omega (arith, run-grows j b)
 
 -- two calls are one run of the sum

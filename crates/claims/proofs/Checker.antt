@@ -6,12 +6,10 @@ use mathlib.Core.List.{List}
 use Rattle.types.specs.declared.table.Table.{Table}
 use Rattle.types.specs.declared.gate.Gate.{Gate}
 use Rattle.types.specs.declared.witness.Witness.{Witness}
-use Rattle.table.specs.Gate.{realises}
-use Rattle.function.specs.Gate.{Realises}
-use Rattle.table.specs.Witness.{balances}
-use Rattle.function.specs.Witness.{countOf, Balances}
-use Rattle.table.proofs.GateLaws.{realises-correct}
-use Rattle.table.proofs.WitnessLaws.{balances-correct}
+use Rattle.function.specs.Gate.{Realises, realises}
+use Rattle.function.specs.Witness.{countOf, Balances, balances}
+use Rattle.function.proofs.GateLaws.{realises-correct}
+use Rattle.function.proofs.WitnessLaws.{balances-correct}
 use Rattle.cell.specs.Refusal.{Rule, answered, checked, NoneBroken}
 use Rattle.cell.specs.Calls.{checkGateRules, checkGate, checkWitnessRules, checkWitness}
 use Rattle.cell.proofs.RefusalLaws.{answered-none-broken, none-broken-answered}
@@ -24,12 +22,14 @@ yes-holds rules test kept exact =
 
 -- a gate is accepted exactly when it realises the table
 pub gate-exact : (t : Table) (g : Gate) → NoneBroken (checkGateRules t g) → checkGate t g ≡ answered true ↔ Realises (g .weights) (g .threshold) (functionOf t)
-gate-exact t g kept = yes-holds (checkGateRules t g) (realises t g) kept (realises-correct t g)
+gate-exact t g kept = yes-holds (checkGateRules t g) (realises (g .weights) (g .threshold) (functionOf t)) kept (realises-correct (g .weights) (g .threshold) (functionOf t))
 
 -- a witness is accepted exactly when it balances
 pub witness-exact : (t : Table) (w : Witness) → NoneBroken (checkWitnessRules t w) → checkWitness t w ≡ answered true ↔ Balances (functionOf t) (countOf (w .counts))
-witness-exact t w kept = yes-holds (checkWitnessRules t w) (balances t w) kept (balances-correct t w)
+witness-exact t w kept = yes-holds (checkWitnessRules t w) (balances (functionOf t) (countOf (w .counts))) kept (balances-correct (functionOf t) (countOf (w .counts)))
 
 -- a witness that was accepted balances
 pub accepted-balances : (t : Table) (w : Witness) → checkWitness t w ≡ answered true → Balances (functionOf t) (countOf (w .counts))
-accepted-balances t w e = balances-correct t w .0 (answered-none-broken (checkWitnessRules t w) (balances t w) true e .1)
+accepted-balances t w e =
+    let count = countOf (w .counts) in
+    balances-correct (functionOf t) count .0 (answered-none-broken (checkWitnessRules t w) (balances (functionOf t) count) true e .1)

@@ -17,7 +17,7 @@ use Rattle.cell.specs.Calls.{tableRules}
 use Rattle.cell.proofs.RefusalLaws.{answered-none-broken}
 use Rattle.cell.proofs.TableChecked.{kept-inputs, table-kept}
 use Rattle.job.specs.declared.job.Job.{Job}
-use Rattle.job.specs.Machine.{run, fresh}
+use Rattle.job.specs.Machine.{run, fresh, decided}
 use Rattle.job.specs.Sound.{Sound}
 use Rattle.job.specs.Calls.{callBudget, jobRules, carryOn, gateOf, witnessOf}
 use Rattle.job.proofs.MachineLaws.{fresh-table, run-table}
@@ -25,23 +25,24 @@ use Rattle.job.proofs.Soundness.{run-grows}
 use Rattle.job.proofs.JobChecked.{kept-sound}
 use Rattle.codec.specs.Field.{Field, Reading}
 use Rattle.codec.specs.Number.{pickBytes}
-use Rattle.codec.specs.Head.{Head, headAt}
-use Rattle.codec.proofs.HeadLaws.{head-taken, head-forward}
+use Rattle.codec.specs.TableField.{tableRecordAt}
+use Rattle.codec.proofs.TableFieldLaws.{record-read}
 use Rattle.codec.proofs.StandsLaws.{AllBytes}
-use Rattle.records.specs.Record.{Record, ofTable, ofGate, ofWitness, ofJob, recordBytes, readRecord}
+use Rattle.records.specs.Record.{Record, ofTable, ofJob, recordBytes, readRecord}
 use Rattle.writers.specs.Calls.{recordRules, tooShort}
 use Rattle.writers.proofs.WriteBack.{write-back}
 use Rattle.reporting.specs.declared.tally.Tally.{Tally}
-use Rattle.reporting.specs.Text.{decimal, spaced, lineFeed}
+use Rattle.text.specs.Text.{decimal, spaced, lineFeed}
 use Rattle.reporting.specs.Lines.{verdictText, recordLine, refusalLine, lastLine, tooLongLine}
-use Rattle.reporting.specs.Report.{inputMost, decided, noTally, counted, recordThen, reportFrom, report}
-use Rattle.reporting.proofs.DecidedLaws.{decided-run}
+use Rattle.reporting.specs.Report.{inputMost, noTally, counted, recordThen, reportFrom, report}
+use Rattle.job.proofs.DecidedLaws.{decided-table}
 use Rattle.theory.proofs.Answers.{EndedWithout, found-realises, found-accepted, ended-balances, ended-accepted, ended-excludes}
-use Rattle.threshold.specs.Result.{Handed}
-use Rattle.threshold.specs.Interface.{tableIn, jobIn, tableRead, jobRead, outcomeIn, outcome, outcomeWritten, handedBack, decide, carriedOn}
-use Rattle.threshold.proofs.DecidedLaws.{decided-kept, carried-kept}
+use Rattle.outcome.specs.Outcome.{outcomeIn, outcome, outcomeWritten, Handed, handedBack}
+use Rattle.threshold.specs.Interface.{tableRead, jobRead, decide, carriedOn}
+use Rattle.threshold.proofs.TakenLaws.{is-table, is-job}
+use Rattle.outcome.proofs.DecidedLaws.{decided-kept, carried-kept}
 use Rattle.claims.specs.Jobs.{Taken}
-use Rattle.claims.specs.Decided.{RightWitness, Right, gate, witness, given-up, machineJob, outcomeText, outcomeLine, RightLine, RightLines, table, refusal, last, RightHanded, DecidedIsRight}
+use Rattle.claims.specs.Decided.{RightWitness, Right, gate, witness, given-up, outcomeText, outcomeLine, RightLine, RightLines, table, refusal, last, RightHanded, DecidedIsRight}
 use Rattle.claims.proofs.CarryOn.{carried-on}
 
 -- ---- an outcome
@@ -59,7 +60,7 @@ module _ (m : Job) (kept : NoneBroken (jobRules m [])) where
       record { balances = ended-balances m few sound e; accepted = ended-accepted m sound taken e; no-gate = ended-excludes m few sound e }
 
   -- what a job has come to is right, by its stage
-  right-in : (form : Record → List ℕ) (x : Stage) → m .stage ≡ x → Right (m .table) m form (form (outcomeIn x m))
+  right-in : (form : Record → List ℕ) (x : Stage) → m .state .stage ≡ x → Right (m .table) m form (form (outcomeIn x m))
   right-in form Open e = given-up e
   right-in form Found e = gate (gateOf m) (record { realises = found-realises m sound e; accepted = found-accepted m sound taken e })
   right-in form Looped e = witness (witnessOf m) (right-witness (inl e))
@@ -67,44 +68,41 @@ module _ (m : Job) (kept : NoneBroken (jobRules m [])) where
 
   -- for the table that it is a job of
   right-outcome : (t : Table) (form : Record → List ℕ) → m .table ≡ t → Right t m form (form (outcome m))
-  right-outcome t form e = subst (λ (u : Table). Right u m form (form (outcome m))) e (right-in form (m .stage) refl)
+  right-outcome t form e = subst (λ (u : Table). Right u m form (form (outcome m))) e (right-in form (m .state .stage) refl)
 
 -- ---- a line
 
 -- a record's line shows what its job has come to
-text-in : (x : Stage) (m : Job) → verdictText x m ≡ outcomeText (m .k) (outcomeIn x m)
+text-in : (x : Stage) (m : Job) → verdictText x m ≡ outcomeText (m .state .k) (outcomeIn x m)
 text-in Open m = refl
 text-in Found m = refl
 text-in Looped m = refl
 text-in Binate m = refl
 
-line-is : (position : ℕ) (m : Job) → recordLine position m ≡ outcomeLine position (m .table) (m .k) (outcome m)
+line-is : (position : ℕ) (m : Job) → recordLine position m ≡ outcomeLine position (m .table) (m .state .k) (outcome m)
 unfolding recordLine
-line-is position m = ap (λ (text : List ℕ). decimal position ++ (spaced (decimal (m .table .n)) ++ (text ++ lineFeed))) (text-in (m .stage) m)
-
-machine-table : (t : Table) → machineJob t .table ≡ t
-machine-table t = run-table callBudget (fresh t) ∙ fresh-table t
+line-is position m = ap (λ (text : List ℕ). decimal position ++ (spaced (decimal (m .table .n)) ++ (text ++ lineFeed))) (text-in (m .state .stage) m)
 
 -- so the line of a table is right
 right-line : (t : Table) → Taken t → (position : ℕ) → RightLine position t (recordLine position (decided t))
 right-line t kept position =
-    let m = machineJob t in
-    let same : recordLine position (decided t) ≡ outcomeLine position t (m .k) (outcome m) =
-    ap (recordLine position) (sym (decided-run t)) ∙ line-is position m ∙ ap (λ (u : Table). outcomeLine position u (m .k) (outcome m)) (machine-table t) in
-    subst (RightLine position t) (sym same) (right-outcome m (decided-kept t kept) t (outcomeLine position t (m .k)) (machine-table t))
+    let m = decided t in
+    let same : recordLine position (decided t) ≡ outcomeLine position t (m .state .k) (outcome m) =
+    line-is position m ∙ ap (λ (u : Table). outcomeLine position u (m .state .k) (outcome m)) (decided-table t) in
+    subst (RightLine position t) (sym same) (right-outcome m (decided-kept t kept) t (outcomeLine position t (m .state .k)) (decided-table t))
 
 -- ---- a report
 
 module _ (s : List ℕ) where
   -- the record at a position, where the rest of the report is right
-  right-record : (rest : ℕ → Tally → List ℕ) (at : ℕ) (t : Tally) (r : Reading Head) → headAt 1 s at ≡ r → at < length s
+  right-record : (rest : ℕ → Tally → List ℕ) (at : ℕ) (t : Tally) (r : Reading Table) → tableRecordAt s at ≡ r → at < length s
       → ((next : ℕ) (u : Tally) → at < next → RightLines s next u (rest next u)) → RightLines s at t (recordThen rest t r)
   right-record rest at t (refused n) e here later = refusal t n here e
   right-record rest at t (answered f) e here later =
-      let j = decided (f .value .table) in
-      let u = counted (j .stage) (j .k) t in
-      table f e (right-line (f .value .table) (head-taken 1 s at f e) (t .records + 1))
-      (subst (λ (m : Job). RightLines s (f .next) (counted (m .stage) (m .k) t) (rest (f .next) u)) (sym (decided-run (f .value .table))) (later (f .next) u (head-forward 1 s at f e)))
+      let j = decided (f .value) in
+      let u = counted (j .state .stage) (j .state .k) t in
+      table f e (right-line (f .value) (record-read s at f e .taken) (t .records + 1))
+      (later (f .next) u (record-read s at f e .forward))
 
   -- or the last line, at the end
   picked : (b : Bool) {at : ℕ} (t : Tally) {lines : List ℕ} → ltb at (length s) ≡ b → (at < length s → RightLines s at t lines)
@@ -117,7 +115,7 @@ module _ (s : List ℕ) where
   unfolding reportFrom
   right-from zero at t h = last {at = at} t (omega arith)
   right-from (suc left) at t h =
-      picked (ltb at (length s)) t refl (λ here. right-record (reportFrom left s) at t (headAt 1 s at) refl here (λ next u forward. right-from left next u (omega arith)))
+      picked (ltb at (length s)) t refl (λ here. right-record (reportFrom left s) at t (tableRecordAt s at) refl here (λ next u forward. right-from left next u (omega arith)))
 
   -- the report of an input that is not too long
   right-lines : length s ≤ inputMost → RightLines s 0 noTally (report s)
@@ -132,18 +130,6 @@ and-then : {A B : Type 0} (a : Answered A) (later : A → Answered B) (b : B) �
 and-then (answered x) later b e = (x, refl, e)
 and-then (refused n) later b e = let z : _≡_ {A = ℕ} 0 1 = cc in absurd (omega arith)
 
-is-table : (x : Record) (t : Table) → tableIn x ≡ answered t → x ≡ ofTable t
-is-table (ofTable u) t e = cc
-is-table (ofGate u g) t e = let z : _≡_ {A = ℕ} 0 1 = cc in absurd (omega arith)
-is-table (ofWitness u w) t e = let z : _≡_ {A = ℕ} 0 1 = cc in absurd (omega arith)
-is-table (ofJob j) t e = let z : _≡_ {A = ℕ} 0 1 = cc in absurd (omega arith)
-
-is-job : (x : Record) (j : Job) → jobIn x ≡ answered j → x ≡ ofJob j
-is-job (ofTable t) j e = let z : _≡_ {A = ℕ} 0 1 = cc in absurd (omega arith)
-is-job (ofGate t g) j e = let z : _≡_ {A = ℕ} 0 1 = cc in absurd (omega arith)
-is-job (ofWitness t w) j e = let z : _≡_ {A = ℕ} 0 1 = cc in absurd (omega arith)
-is-job (ofJob i) j e = cc
-
 -- a table that was read keeps its format, since a record that was read keeps the rules of a writer
 read-taken : (s : List ℕ) → AllBytes s → (t : Table) → readRecord s ≡ answered (ofTable t) → Taken t
 read-taken s bytes t e =
@@ -157,7 +143,7 @@ right-handed t j b room h e kept handed =
     let m = run b j in
     let (bytes, ew, eh) = and-then (outcomeWritten room m) _ h handed in
     let written = answered-none-broken (tooShort room (recordBytes (outcome m)) ∷ []) (recordBytes (outcome m)) bytes ew .1 in
-    let back : RightHanded t j m (record { bytes = bytes; made = m .k - j .k }) = record {
+    let back : RightHanded t j m (record { bytes = bytes; made = m .state .k - j .state .k }) = record {
       bytes = subst (Right t m recordBytes) written (right-outcome m kept t recordBytes (run-table b j ∙ e));
       made = omega (arith, run-grows j b);
     } in
@@ -165,11 +151,10 @@ right-handed t j b room h e kept handed =
 
 module _ (s : List ℕ) (all : AllBytes s) where
   right-decide : (room : ℕ) (h : Handed) → decide s room ≡ answered h
-      → (t : Table) × (readRecord s ≡ answered (ofTable t)) × RightHanded t (fresh t) (machineJob t) h
+      → (t : Table) × (readRecord s ≡ answered (ofTable t)) × RightHanded t (fresh t) (decided t) h
   right-decide room h e =
       let (t, et, handed) = and-then (tableRead s) _ h e in
-      let (x, ex, ei) = and-then (readRecord s) tableIn t et in
-      let read : readRecord s ≡ answered (ofTable t) = ex ∙ ap answered (is-table x t ei) in
+      let read = is-table (readRecord s) t et in
       (t, read, right-handed t (fresh t) callBudget room h (fresh-table t) (decided-kept t (read-taken s all t read)) handed)
 
   right-carry-on : (budget room : ℕ) (h : Handed) → carriedOn s budget room ≡ answered h
@@ -177,11 +162,10 @@ module _ (s : List ℕ) (all : AllBytes s) where
   unfolding carriedOn
   right-carry-on budget room h e =
       let (j, ej, ec) = and-then (jobRead s) _ h e in
-      let (x, ex, ei) = and-then (readRecord s) jobIn j ej in
       let (next, en, handed) = and-then (carryOn j budget) _ h ec in
       let same = carried-on j next budget en in
       let kept = subst (λ (i : Job). NoneBroken (jobRules i [])) same (carried-kept j next budget en) in
-      (j, ex ∙ ap answered (is-job x j ei), right-handed (j .table) j budget room h refl kept (ap (handedBack room j) (sym same) ∙ handed))
+      (j, is-job (readRecord s) j ej, right-handed (j .table) j budget room h refl kept (ap (handedBack room j) (sym same) ∙ handed))
 
   -- what is decided of any bytes is right
   pub decided-is-right : DecidedIsRight s

@@ -25,8 +25,8 @@ use Rattle.table.specs.Table.{functionOf}
 
 -- a job that is shown is sound, and its table is not refused
 module _ (j : Job) (s : Shown) (e : showJob j ≡ answered s) where
-  parts : NoneBroken (jobRules j []) × (shownIn (j .stage) j ≡ s)
-  parts = answered-none-broken (jobRules j []) (shownIn (j .stage) j) s e
+  parts : NoneBroken (jobRules j []) × (shownIn (j .state .stage) j ≡ s)
+  parts = answered-none-broken (jobRules j []) (shownIn (j .state .stage) j) s e
 
   sound : Sound j
   sound = kept-sound j (parts .0)
@@ -48,14 +48,14 @@ witness-stage Looped j v = (inl refl, refl)
 witness-stage Binate j v = (inr refl, refl)
 
 module _ (j : Job) (s : Shown) (e : showJob j ≡ answered s) where
-  found : s .verdict ≡ Verdict′.Gate → (j .stage ≡ Found) × (gateOf j ≡ s .gate)
+  found : s .verdict ≡ Verdict′.Gate → (j .state .stage ≡ Found) × (gateOf j ≡ s .gate)
   found v =
-      let g = gate-stage (j .stage) j (ap (λ (x : Shown). x .verdict) (parts j s e .1) ∙ v) in
+      let g = gate-stage (j .state .stage) j (ap (λ (x : Shown). x .verdict) (parts j s e .1) ∙ v) in
       (g .0, sym (g .1) ∙ ap (λ (x : Shown). x .gate) (parts j s e .1))
 
   ended : s .verdict ≡ Verdict′.Witness → EndedWithout j × (witnessOf j ≡ s .witness)
   ended v =
-      let w = witness-stage (j .stage) j (ap (λ (x : Shown). x .verdict) (parts j s e .1) ∙ v) in
+      let w = witness-stage (j .state .stage) j (ap (λ (x : Shown). x .verdict) (parts j s e .1) ∙ v) in
       (w .0, sym (w .1) ∙ ap (λ (x : Shown). x .witness) (parts j s e .1))
 
   -- a gate that is shown realises the table

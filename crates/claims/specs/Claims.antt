@@ -9,10 +9,8 @@ use Rattle.types.specs.declared.table.Table.{Table}
 use Rattle.types.specs.declared.gate.Gate.{Gate}
 use Rattle.types.specs.declared.witness.Witness.{Witness}
 use Rattle.table.specs.Table.{value, functionOf}
-use Rattle.table.specs.Gate.{realises}
-use Rattle.function.specs.Gate.{gateTrue, Realises}
-use Rattle.table.specs.Witness.{balances}
-use Rattle.function.specs.Witness.{countOf, Balances}
+use Rattle.function.specs.Gate.{gateTrue, Realises, realises}
+use Rattle.function.specs.Witness.{countOf, Balances, balances}
 use Rattle.table.specs.Inputs.{kindsOf}
 use Rattle.table.specs.Chow.{chowOf}
 use Rattle.cell.specs.Refusal.{Rule, Answered, answered, refused, FirstBroken, NoneBroken}
@@ -29,8 +27,8 @@ pub record ByRules {A : Type 0} (rules : List Rule) (a : A) (call : Answered A) 
 pub record NumbersOnTheirConditions : Type 0 where
   pub table-value : (t : Table) (r : ℕ) → ByRules (tableValueRules t r) (value t r) (tableValue t r)
   pub gate-value : (g : Gate) (r : ℕ) → ByRules (gateValueRules g r) (gateTrue (g .weights) (g .threshold) (level 2 r)) (gateValue g r)
-  pub check-gate : (t : Table) (g : Gate) → ByRules (checkGateRules t g) (realises t g) (checkGate t g)
-  pub check-witness : (t : Table) (w : Witness) → ByRules (checkWitnessRules t w) (balances t w) (checkWitness t w)
+  pub check-gate : (t : Table) (g : Gate) → ByRules (checkGateRules t g) (realises (g .weights) (g .threshold) (functionOf t)) (checkGate t g)
+  pub check-witness : (t : Table) (w : Witness) → ByRules (checkWitnessRules t w) (balances (functionOf t) (countOf (w .counts))) (checkWitness t w)
   pub input-kinds : (t : Table) → ByRules (tableRules t []) (kindsOf t) (inputKinds t)
   pub chow-parameters : (t : Table) → ByRules (tableRules t []) (chowOf t) (chowParameters t)
 

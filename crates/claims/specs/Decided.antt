@@ -15,16 +15,17 @@ use Rattle.function.specs.Witness.{countOf, Balances}
 use Rattle.cell.specs.Refusal.{answered, refused}
 use Rattle.cell.specs.Calls.{checkGate, checkWitness}
 use Rattle.job.specs.declared.job.Job.{Job}
-use Rattle.job.specs.Machine.{run, fresh}
-use Rattle.job.specs.Calls.{callBudget}
+use Rattle.job.specs.Machine.{run, fresh, decided}
 use Rattle.codec.specs.Field.{Field}
-use Rattle.codec.specs.Head.{Head, headAt}
+use Rattle.codec.specs.TableField.{tableRecordAt}
 use Rattle.records.specs.Record.{Record, ofTable, ofGate, ofWitness, ofJob, recordBytes, readRecord}
 use Rattle.reporting.specs.declared.tally.Tally.{Tally}
-use Rattle.reporting.specs.Text.{decimal, spaced, lineFeed}
-use Rattle.reporting.specs.Lines.{gateText, witnessText, openText, recordLine, refusalLine, lastLine}
-use Rattle.reporting.specs.Report.{inputMost, decided, noTally, counted, report}
-use Rattle.threshold.specs.Result.{Handed}
+use Rattle.text.specs.Text.{decimal, spaced, lineFeed}
+use Rattle.notation.specs.GateText.{gateText}
+use Rattle.notation.specs.WitnessText.{witnessText}
+use Rattle.reporting.specs.Lines.{openText, recordLine, refusalLine, lastLine}
+use Rattle.reporting.specs.Report.{inputMost, noTally, counted, report}
+use Rattle.outcome.specs.Outcome.{Handed}
 use Rattle.threshold.specs.Interface.{decide, carriedOn}
 use Rattle.claims.specs.Jobs.{Taken}
 use Rattle.table.specs.Table.{functionOf}
@@ -47,11 +48,7 @@ pub record RightWitness (t : Table) (w : Witness) : Type 0 where
 pub data Right (t : Table) (m : Job) (form : Record → List ℕ) : List ℕ → Type 0 where
   gate : (g : Gate) → RightGate t g → Right t m form (form (ofGate t g))
   witness : (w : Witness) → RightWitness t w → Right t m form (form (ofWitness t w))
-  given-up : m .stage ≡ Open → Right t m form (form (ofJob m))
-
--- the machine's job of a table after one carry-on of 100,000
-abbrev pub machineJob : Table → Job
-machineJob t = run callBudget (fresh t)
+  given-up : m .state .stage ≡ Open → Right t m form (form (ofJob m))
 
 -- ---- in a report
 
@@ -68,16 +65,16 @@ outcomeLine position t k x = decimal position ++ (spaced (decimal (t .n)) ++ (ou
 
 -- a line that is right for the table
 abbrev pub RightLine : ℕ → Table → List ℕ → Type 0
-RightLine position t = Right t (machineJob t) (outcomeLine position t (machineJob t .k))
+RightLine position t = Right t (decided t) (outcomeLine position t (decided t .state .k))
 
 -- the lines of an input from one of its bytes on, after the records of a tally: of each table that is read a right line, until a refusal or
 -- the end, and the last line, with the numbers of the machine's jobs
 pub data RightLines (s : List ℕ) : (at : ℕ) → Tally → List ℕ → Type 0 where
-  table : {at : ℕ} {t : Tally} {line rest : List ℕ} (f : Field Head) → headAt 1 s at ≡ answered f
-      → RightLine (t .records + 1) (f .value .table) line
-      → RightLines s (f .next) (counted (machineJob (f .value .table) .stage) (machineJob (f .value .table) .k) t) rest
+  table : {at : ℕ} {t : Tally} {line rest : List ℕ} (f : Field Table) → tableRecordAt s at ≡ answered f
+      → RightLine (t .records + 1) (f .value) line
+      → RightLines s (f .next) (counted (decided (f .value) .state .stage) (decided (f .value) .state .k) t) rest
       → RightLines s at t (line ++ rest)
-  refusal : {at : ℕ} (t : Tally) (n : ℕ) → at < length s → headAt 1 s at ≡ refused n
+  refusal : {at : ℕ} (t : Tally) (n : ℕ) → at < length s → tableRecordAt s at ≡ refused n
       → RightLines s at t (refusalLine (t .records + 1) n ++ lastLine t)
   last : {at : ℕ} (t : Tally) → length s ≤ at → RightLines s at t (lastLine t)
 
@@ -86,7 +83,7 @@ pub data RightLines (s : List ℕ) : (at : ℕ) → Tally → List ℕ → Type 
 -- of a call that brought the table's machine from one job to the next: the bytes of a right record, and what K grew by
 pub record RightHanded (t : Table) (before next : Job) (h : Handed) : Type 0 where
   pub bytes : Right t next recordBytes (h .bytes)
-  pub made : h .made + before .k ≡ next .k
+  pub made : h .made + before .state .k ≡ next .state .k
 
 -- ---- the claim
 
@@ -95,6 +92,6 @@ pub record RightHanded (t : Table) (before next : Job) (h : Handed) : Type 0 whe
 pub record DecidedIsRight (s : List ℕ) : Type 0 where
   pub line : (t : Table) → Taken t → (position : ℕ) → RightLine position t (recordLine position (decided t))
   pub lines : length s ≤ inputMost → RightLines s 0 noTally (report s)
-  pub decides : (room : ℕ) (h : Handed) → decide s room ≡ answered h → (t : Table) × (readRecord s ≡ answered (ofTable t)) × RightHanded t (fresh t) (machineJob t) h
+  pub decides : (room : ℕ) (h : Handed) → decide s room ≡ answered h → (t : Table) × (readRecord s ≡ answered (ofTable t)) × RightHanded t (fresh t) (decided t) h
   pub carries-on : (budget room : ℕ) (h : Handed) → carriedOn s budget room ≡ answered h
       → (j : Job) × (readRecord s ≡ answered (ofJob j)) × RightHanded (j .table) j (run budget j) h

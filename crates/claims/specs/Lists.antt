@@ -18,8 +18,8 @@ use Rattle.job.specs.declared.job.Carried.{Carried}
 use Rattle.job.specs.Machine.{run}
 use Rattle.job.specs.Sound.{Sound}
 use Rattle.job.specs.Calls.{freshJob, jobRules, budgetRange, pastCap, carryOn, carried}
-use Rattle.records.specs.declared.read.Kind.{Kind}
-use Rattle.records.specs.declared.read.Kind.the-variants as Kind′
+use Rattle.types.specs.declared.kind.Kind.{Kind}
+use Rattle.types.specs.declared.kind.Kind.the-variants as Kind′
 use Rattle.records.specs.declared.read.Read.{Read}
 use Rattle.writers.specs.declared.write.Written.{Written}
 use Rattle.writers.specs.declared.write.Written.the-variants as Written′
@@ -99,12 +99,12 @@ ofOpen Binate rules = []
 
 -- the order of a call, for its arguments and the machine's job: carry-on 2, 3, 9, 10, the ended answer, 11; save 2, 3, 9, 13, 12
 abbrev pub callRules : Job → Call → List Rule
-callRules m (carryOnBy budget) = jobRules m (budgetRange budget ∷ ofOpen (m .stage) (pastCap m budget ∷ []))
+callRules m (carryOnBy budget) = jobRules m (budgetRange budget ∷ ofOpen (m .state .stage) (pastCap m budget ∷ []))
 callRules m (saveAndRead buffer) = recordRules (ofJob m) (tooShort (length buffer) (recordBytes (ofJob m)) ∷ [])
 
 -- an accepted budget runs the machine, and what its K grows by is made; a save writes its job, which stays
 abbrev pub onMachine : Job → Call → After
-onMachine m (carryOnBy budget) = record { reply = made ((run budget m) .k - m .k); job = run budget m }
+onMachine m (carryOnBy budget) = record { reply = made ((run budget m) .state .k - m .state .k); job = run budget m }
 onMachine m (saveAndRead buffer) = record { reply = saved (recordBytes (ofJob m)); job = m }
 
 -- a refused call makes no correction and leaves the job as it was
@@ -146,11 +146,11 @@ pub record ListIsTheMachine (t : Table) (j : Job) (cs : List Call) : Type 0 wher
   pub replied : replies j cs ≡ machineReplies j cs
   pub job : after j cs ≡ run (fed j cs) j
   pub sound : Sound (after j cs)
-  pub bound : (ws : List ℤ) (th : ℤ) → length ws ≡ t .n → Realises ws th (functionOf t) → (after j cs) .k ≤ (t .n + 1) * factor ws th
+  pub bound : (ws : List ℤ) (th : ℤ) → length ws ≡ t .n → Realises ws th (functionOf t) → (after j cs) .state .k ≤ (t .n + 1) * factor ws th
 
 -- Every list of calls from the fresh job of the table is the machine; and the machine refuses a call exactly where its order gives a number
 -- for the call's arguments and the machine's job; its K never falls, so that what it grows by is a difference
 pub record CallsAreTheMachine (t : Table) : Type 0 where
   pub list : (j : Job) → freshJob t ≡ answered j → (cs : List Call) → ListIsTheMachine t j cs
   pub refusal : (m : Job) (c : Call) (n : ℕ) → machineReply m c .reply ≡ number n 0 ↔ FirstBroken n (callRules m c)
-  pub grows : (m : Job) (budget : ℕ) → m .k ≤ (run budget m) .k
+  pub grows : (m : Job) (budget : ℕ) → m .state .k ≤ (run budget m) .state .k

@@ -6,11 +6,11 @@ use Prim.Native.Nat.{ℕ, _+_, _≤_, _<_}
 use lib.ListN.{length}
 use Rattle.types.specs.declared.table.Table.{Table}
 use Rattle.cell.specs.Refusal.{answered}
-use Rattle.job.specs.Machine.{fresh}
+use Rattle.job.specs.Machine.{fresh, decided}
 use Rattle.job.specs.Calls.{callBudget, carryOn}
 use Rattle.batch.specs.declared.progress.Step.the-variants.{Done}
 use Rattle.reporting.specs.Lines.{tooLongLine}
-use Rattle.reporting.specs.Report.{inputMost, decided, report}
+use Rattle.reporting.specs.Report.{inputMost, report}
 use Rattle.batch.specs.Progress.{start, linesFrom, after}
 use Rattle.claims.specs.Jobs.{Taken}
 

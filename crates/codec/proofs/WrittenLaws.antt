@@ -8,10 +8,10 @@ use native.Mathlib.Numerals.{add-one}
 use native.Mathlib.Omega.{arith}
 use lib.ListN.{length, take, drop, set, length-append, length-drop, take-append-drop, drop-of-length-le}
 use lib.Seq.{length-take-le, take-all, take-at, drop-at, drop-drop, sets, sets-eq, paste}
-use Rattle.codec.specs.Field.{writtenAt}
+use Rattle.codec.specs.Written.{writtenAt, Room, Put}
 
 -- a field in its room leaves the buffer as long as it was
-pub written-length : (old : List ℕ) (at : ℕ) (w : List ℕ) → at + length w ≤ length old → length (writtenAt old at w) ≡ length old
+pub written-length : (old : List ℕ) (at : ℕ) (w : List ℕ) → Room old at w → length (writtenAt old at w) ≡ length old
 written-length old at w h =
     let room : at ≤ length old = omega arith in
     rw (length-append, length-append, length-take-le at old, length-drop) (omega arith)
@@ -25,7 +25,7 @@ written-split old at w h =
     rw (← append-assoc (take at old) w (drop next old)) (take-at (take at old ++ w) (drop next old) next long, drop-at (take at old ++ w) (drop next old) next long)
 
 -- a field and the one after it, written in turn, are both written
-pub written-on : (old : List ℕ) (at : ℕ) (x y : List ℕ) → at + length (x ++ y) ≤ length old
+pub written-on : (old : List ℕ) (at : ℕ) (x y : List ℕ) → Room old at (x ++ y)
     → writtenAt (writtenAt old at x) (at + length x) y ≡ writtenAt old at (x ++ y)
 written-on old at x y h =
     let next = at + length x in
@@ -33,19 +33,15 @@ written-on old at x y h =
     let after = sym (drop-drop (length y) next (writtenAt old at x)) ∙ ap (drop (length y)) (parts .1) ∙ drop-drop (length y) next old in
     rw (parts .0, after) (simp (length-append, add-assoc, append-assoc))
 
--- a field w stands in `out`, which was `old`, and `here` is the position behind it
-abbrev pub Written : (old : List ℕ) (at : ℕ) (w out : List ℕ) (here : ℕ) → Type 0
-Written old at w out here = (here ≡ at + length w) × (out ≡ writtenAt old at w)
-
-module _ (old : List ℕ) (at : ℕ) (x y : List ℕ) (h : at + length (x ++ y) ≤ length old) where
+module _ (old : List ℕ) (at : ℕ) (x y : List ℕ) (h : Room old at (x ++ y)) where
   -- where there is room for two fields and the first is written, there is room for the second
-  pub written-room : {out : List ℕ} {here : ℕ} → Written old at x out here → here + length y ≤ length out
+  pub written-room : {out : List ℕ} {here : ℕ} → Put old at x out here → Room out here y
   written-room p =
       let both = length-append x y in
       omega (arith, ap length (p .1), written-length old at x (omega arith))
 
   -- the second, written behind the first
-  pub written-next : {out last : List ℕ} {here next : ℕ} → Written old at x out here → Written out here y last next → Written old at (x ++ y) last next
+  pub written-next : {out last : List ℕ} {here next : ℕ} → Put old at x out here → Put out here y last next → Put old at (x ++ y) last next
   written-next p q = (omega (arith, length-append x y), q .1 ∙ rw (p .1, p .0) (written-on old at x y h))
 
 -- ---- fields in turn: m of them are `all m`, and the next is `one m`
@@ -64,20 +60,20 @@ module _ (all one : ℕ → List ℕ) (step : (m : ℕ) → all (m + 1) ≡ all 
   turns-most k none h zero = rw none (omega arith)
   turns-most k none h (suc m) = omega (arith, longer m, h m, turns-most k none h m)
 
-  module _ (n : ℕ) (old : List ℕ) (at : ℕ) (fits : at + length (all n) ≤ length old) (m : ℕ) (h : m < n) where
-    room-for-next : at + length (all m ++ one m) ≤ length old
+  module _ (n : ℕ) (old : List ℕ) (at : ℕ) (fits : Room old at (all n)) (m : ℕ) (h : m < n) where
+    room-for-next : Room old at (all m ++ one m)
     room-for-next =
         let rest : n - suc m + suc m ≡ n = omega arith in
         omega (arith, length-append (all m) (one m), longer m, first-few (n - suc m) (suc m), ap (λ (k : ℕ). length (all k)) rest)
 
     -- in a buffer with room for n, of which m are written, there is room for the next
-    pub turn-room : {out : List ℕ} {here : ℕ} → Written old at (all m) out here → here + length (one m) ≤ length out
-    turn-room p = written-room old at (all m) (one m) room-for-next p
+    pub next-room : {out : List ℕ} {here : ℕ} → Put old at (all m) out here → Room out here (one m)
+    next-room p = written-room old at (all m) (one m) room-for-next p
 
     -- with it one more is written
-    pub turn-written : {out last : List ℕ} {here next : ℕ} → Written old at (all m) out here → Written out here (one m) last next
-        → Written old at (all (m + 1)) last next
-    turn-written p q = rw (step m) (written-next old at (all m) (one m) room-for-next p q)
+    pub next-written : {out last : List ℕ} {here next : ℕ} → Put old at (all m) out here → Put out here (one m) last next
+        → Put old at (all (m + 1)) last next
+    next-written p q = rw (step m) (written-next old at (all m) (one m) room-for-next p q)
 
 -- ---- other ways to write a field
 
@@ -105,3 +101,13 @@ part-written old ys w p h e =
     let full : length (drop p old) ≤ length old - p = rw length-drop (omega arith) in
     let rest : ys ≡ w ++ drop (p + length w) old = e ∙ rw (take-all (length old - p) (drop p old) full, zero-add, drop-drop) in
     rw (drop-of-length-le (drop p old) {i = length old - p} full, append-nil, rest)
+
+module _ (old : List ℕ) (at : ℕ) (x y : List ℕ) (h : Room old at (x ++ y)) {out : List ℕ} {here : ℕ} (p : Put old at x out here) where
+  -- where the first of two fields is written, the rest of the buffer has room for the second
+  pub written-rest : length y ≤ length (take (length out - here) (drop here out))
+  written-rest = rw (length-take-le (length out - here) (drop here out) (omega (arith, length-drop here out))) (omega (arith, written-room old at x y h p))
+
+  -- once it is written there, it stands behind the first
+  pub written-part : {size : ℕ} {part : List ℕ} → Put (take (length out - here) (drop here out)) 0 y part size
+      → Put old at (x ++ y) (take here out ++ (part ++ drop (length out - here) (drop here out))) (here + size)
+  written-part (e, b) = written-next old at x y h p (omega arith, part-written out _ y here (omega (arith, written-room old at x y h p)) b)

@@ -1,9 +1,9 @@
--- Fields of a record: what reading one at a position gives, and bytes written at a position (document 01, "Records" and "Who causes which
--- number"). Definitions only. Assumes nothing.
-use mathlib.Core.List.{List, _++_}
+-- Fields of a record: what reading one at a position gives (document 01, "Records" and "Who causes which number"). Definitions only.
+-- Assumes nothing.
+use mathlib.Core.List.{List}
 use Prim.Native.Nat.{ℕ, _+_}
 use lib.Dec.{ltb}
-use lib.ListN.{length, take, drop}
+use lib.ListN.{length}
 use Rattle.cell.specs.Refusal.{Rule, rule, Answered, answered, refused}
 
 -- a value that was read, and the position after its bytes
@@ -26,7 +26,3 @@ onward (refused n) later = refused n
 -- 1: fewer than m bytes are left at a position
 abbrev pub endsEarly : List ℕ → ℕ → ℕ → Rule
 endsEarly s at m = rule 1 (ltb (length s) (at + m))
-
--- bytes written into a buffer at a position: all others keep their values
-abbrev pub writtenAt : List ℕ → ℕ → List ℕ → List ℕ
-writtenAt old at bytes = take at old ++ (bytes ++ drop (at + length bytes) old)

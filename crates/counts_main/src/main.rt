@@ -2,8 +2,8 @@
 // the gates are the published counts of threshold functions.
 mod outcome;
 
+use papers::show;
 use types::table::Table;
-use vectors::show;
 ghost use Prim.Native.Nat.{_≤_};
 
 // Returns the table of at most four inputs whose rows are the bits of a number.

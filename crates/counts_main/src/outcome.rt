@@ -37,10 +37,11 @@ pub fn run(table: Table) -> Outcome
     let taken = carried.status;
     let ended = carried.job;
     let accepted = is_done(made) && is_done(taken) && is_accepted(ended);
-    let stage = ended.stage;
+    let state = ended.state;
+    let stage = state.stage;
     Outcome {
         stage: stage_number(stage),
-        corrections: ended.k as u64,
+        corrections: state.k as u64,
         accepted: accepted as u64,
     }
 }

@@ -177,5 +177,5 @@ binate-counts-balance f place few e =
       total = sums true 0 ∙ sym (sums false 0);
       above = omega (arith, sums true 0);
       inputs = λ i l h. sums true i ∙ sym (sums false i);
-      cared = binate-counts-cared f place;
+      cared = λ r h. binate-counts-cared f place r;
     }

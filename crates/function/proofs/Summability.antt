@@ -69,8 +69,8 @@ only-if-side false true c h = absurd (omega arith)
 only-if-side false false c h = (refl, h)
 
 -- a row that counts is cared for
-counted-cared : {f : Function} {count : ℕ → ℕ} → Balances f count → (r : ℕ) → 0 < count r → f .cared r ≡ true
-counted-cared {f} {count} b r h = by (f .cared r) (b .cared r)
+counted-cared : {f : Function} {count : ℕ → ℕ} → Balances f count → (r : ℕ) → r < rows f → 0 < count r → f .cared r ≡ true
+counted-cared {f} {count} b r h some = by (f .cared r) (b .cared r h)
   where
     by : (c : Bool) → (c ≡ false → count r ≡ 0) → c ≡ true
     by true none = refl
@@ -103,7 +103,7 @@ no-gate f count b ws th g =
     row : (side : Bool) (r : ℕ) → r < rows f → 0 < lot side r → leZ (pos 0) (weightedSum (negℤ th ∷ ws) (inputLevel (levels f r))) ≡ side
     row side r h c =
         let s = only-if-side (f .value r) side (count r) c in
-        rw (distance-sum ws th (levels f r)) (g r h (counted-cared b r (s .1)) ∙ s .0)
+        rw (distance-sum ws th (levels f r)) (g r h (counted-cared b r h (s .1)) ∙ s .0)
 
     high : (r : ℕ) → r < rows f → 0 < lot true r → pos 0 ≤ℤ weightedSum (negℤ th ∷ ws) (inputLevel (levels f r))
     high r h c = omega (integers, row true r h c)

@@ -1,31 +1,20 @@
 -- Laws of vectors: the test that two are equal, and what a correction by a row's levels adds at each place. Assumes nothing.
 use mathlib.Core.Path.{_≡_, refl, _∙_, ap, ap₂}
-use mathlib.Core.Logic.{_≢_, _↔_}
+use mathlib.Core.Logic.{_↔_}
 use mathlib.Core.Bool.{Bool, true, false}
 use mathlib.Core.List.{List, [], _∷_}
 use Prim.Native.Nat.{ℕ, zero, suc, _≤_, _<_}
 use native.Mathlib.Omega.{arith}
 use lib.ListN.{length, getD}
-use lib.Seq.{ext-getD}
 use lib.IntN.{ℤ, pos, negsuc, negℤ, _+ℤ_, _-ℤ_, _*ℤ_, *ℤ-comm}
-use lib.Signed.{leZ}
 use Rattle.numbers.specs.Tests.{sameZ}
-use Rattle.numbers.specs.Tabulate.{tabulate}
 use Rattle.numbers.proofs.Int.{integers, parts-sub, parts-neg, parts-add}
-use Rattle.numbers.proofs.TestLaws.{and-left, and-right, and-both, not-passed, no-true}
-use Rattle.numbers.proofs.TabulateLaws.{tabulate-getD}
+use Rattle.numbers.proofs.TestLaws.{and-left, and-right, and-both, no-true, same-z-correct}
 use Rattle.types.specs.declared.vector.Vector.{Vector}
 use Rattle.function.specs.Witness.{inputLevel}
 use Rattle.function.specs.Vector.{sign, addLevels, correctedBy, sameList, sameVector, component}
 
 -- ---- equal vectors
-
--- the test of two integers passes exactly if they are equal
-pub same-z-correct : (x y : ℤ) → sameZ x y ≡ true ↔ x ≡ y
-same-z-correct x y = (
-  λ e. (let l = and-left (leZ x y) (leZ y x) e in let g = and-right (leZ x y) (leZ y x) e in omega integers),
-  λ e. and-both {a = leZ x y} {b = leZ y x} (omega integers) (omega integers),
-)
 
 same-list-eq : (xs ys : List ℤ) → sameList xs ys ≡ true → xs ≡ ys
 unfolding sameList
@@ -43,14 +32,6 @@ same-list-refl (x ∷ xs) = and-both (same-z-correct x x .1 refl) (same-list-ref
 -- the test of two lists passes exactly if they are equal
 pub same-list-correct : (xs ys : List ℤ) → sameList xs ys ≡ true ↔ xs ≡ ys
 same-list-correct xs ys = (same-list-eq xs ys, λ e. rw (← e) (same-list-refl xs))
-
--- it passes where two lists of one length agree at each place, and fails where they differ at one
-pub same-list-from : (xs ys : List ℤ) → length xs ≡ length ys → ((i : ℕ) → i < length xs → getD xs i (pos 0) ≡ getD ys i (pos 0))
-    → sameList xs ys ≡ true
-same-list-from xs ys n h = same-list-correct xs ys .1 (ext-getD (pos 0) xs ys n h)
-
-pub same-list-fails : (xs ys : List ℤ) (i : ℕ) → getD xs i (pos 0) ≢ getD ys i (pos 0) → sameList xs ys ≡ false
-same-list-fails xs ys i n = not-passed (sameList xs ys) (λ e. n (ap (λ (l : List ℤ). getD l i (pos 0)) (same-list-correct xs ys .0 e)))
 
 -- vectors of equal parts are equal
 pub vector-eq : (v s : Vector) → v .a ≡ s .a → v .b ≡ s .b → v ≡ s
@@ -82,14 +63,6 @@ module _ (z : ℤ) where
   getD-add-levels l [] place h = absurd (omega arith)
   getD-add-levels l (x ∷ xs) zero h = refl
   getD-add-levels l (x ∷ xs) (suc place) h = getD-add-levels (λ p. l (suc p)) xs place (omega arith)
-
-  -- the places after the correction, one after the other
-  pub add-levels-tabulate : (l : ℕ → ℕ) (xs : List ℤ)
-      → addLevels z l xs ≡ tabulate (length xs) (λ place. getD xs place (pos 0) +ℤ pos (l place) *ℤ z)
-  add-levels-tabulate l xs =
-      tabulate-getD (λ place. getD xs place (pos 0) +ℤ pos (l place) *ℤ z) (length xs) (pos 0) (addLevels z l xs)
-      (length-add-levels l xs)
-      (getD-add-levels l xs)
 
 -- what a correction makes of the weights, and of the threshold
 pub corrected-weights : (y : Bool) (l : ℕ → ℕ) (v : Vector) → (correctedBy y l v) .a ≡ addLevels (sign y) l (v .a)

@@ -1,16 +1,20 @@
--- Laws of the sums over the rows of one side: what a row adds to them, and a count more. Assumes nothing.
-use mathlib.Core.Path.{_≡_, refl, _∙_, ap}
-use mathlib.Core.Bool.{Bool, true, false}
+-- Laws of the sums over the rows of one side: what a row adds to them, and a count more; and the tests `countsCared` and `balances` with
+-- their meaning, both directions. Assumes nothing.
+use mathlib.Core.Path.{_≡_, refl, sym, _∙_, ap}
+use mathlib.Core.Bool.{Bool, true, false, _&&_, _||_}
+use mathlib.Core.Logic.{_↔_}
 use mathlib.Core.List.{List}
 use Prim.Native.Nat.{ℕ, zero, suc, _+_, _*_, _≤_, _<_}
 use native.Mathlib.Omega.{arith}
+use lib.Dec.{ltb, eqb}
 use lib.ListN.{length}
+use borrow.Author.Tests.{ltb-true, lt-ltb, eqb-true, eq-eqb}
 use Rattle.numbers.specs.Sum.{sumBelow}
-use Rattle.numbers.specs.Tests.{sameBool}
+use Rattle.numbers.specs.Tests.{sameBool, allBelow}
 use Rattle.numbers.proofs.SumLaws.{sum-below-ext, sum-below-most, sum-below-more, sum-below-term}
-use Rattle.numbers.proofs.TestLaws.{same-bool-refl}
+use Rattle.numbers.proofs.TestLaws.{no-true, and-left, and-right, and-both, same-bool-refl, all-below-at, all-below-from}
 use Rattle.function.specs.Function.{Function, levels, rows}
-use Rattle.function.specs.Witness.{inputLevel, onlyIf, sideSum, Balances, countOf, oneMore, zeros}
+use Rattle.function.specs.Witness.{inputLevel, onlyIf, sideSum, Balances, countsCared, balances, countOf, oneMore, zeros}
 use Rattle.function.proofs.CountLaws.{one-more-same, one-more-other, getD-zeros}
 
 -- the two sides of a balance have the same total of each input, of input 0 too
@@ -72,3 +76,51 @@ module _ (f : Function) where
 
       nothing : (q : ℕ) → term side i q (countOf zeros q) ≤ 0
       nothing q = rw (getD-zeros q) (no-term (sameBool (f .value q) side) (inputLevel (levels f q) i))
+
+-- the test of a row's count passes exactly if a row that is not cared for has none
+none-unless : (cared : Bool) (c : ℕ) → (cared || eqb c 0) ≡ true ↔ (cared ≡ false → c ≡ 0)
+none-unless true c = (λ e free. absurd (no-true (sym free)), λ none. refl)
+none-unless false c = (λ e free. eqb-true c 0 e, λ none. eq-eqb c 0 (none refl))
+
+module _ (f : Function) (count : ℕ → ℕ) where
+  -- the test that rows that are not cared for have no count says so
+  pub counts-cared-correct : countsCared f count ≡ true ↔ ((r : ℕ) → r < rows f → f .cared r ≡ false → count r ≡ 0)
+  unfolding countsCared
+  counts-cared-correct = (
+    λ e r h. none-unless (f .cared r) (count r) .0 (all-below-at (rows f) spared e r h),
+    λ none. all-below-from (rows f) spared (λ r h. none-unless (f .cared r) (count r) .1 (none r h)),
+  )
+    where
+      spared : ℕ → Bool
+      spared r = f .cared r || eqb (count r) 0
+
+  -- the test that counts balance says so
+  pub balances-correct : balances f count ≡ true ↔ Balances f count
+  unfolding balances
+  balances-correct = (balanced, passes)
+    where
+      same : ℕ → Bool
+      same i = eqb (sideSum f true count i) (sideSum f false count i)
+
+      above : Bool
+      above = ltb 0 (sideSum f true count 0)
+
+      equal : Bool
+      equal = allBelow (suc (f .places)) same
+
+      balanced : balances f count ≡ true → Balances f count
+      balanced e =
+          let sums = and-left (above && equal) (countsCared f count) e in
+          let all = all-below-at (suc (f .places)) same (and-right above equal sums) in
+          record {
+            total = eqb-true _ _ (all 0 (omega arith));
+            above = ltb-true _ _ (and-left above equal sums);
+            inputs = λ i l h. eqb-true _ _ (all i (omega arith));
+            cared = counts-cared-correct .0 (and-right (above && equal) (countsCared f count) e);
+          }
+
+      passes : Balances f count → balances f count ≡ true
+      passes b =
+          and-both
+          (and-both (lt-ltb _ _ (b .above)) (all-below-from (suc (f .places)) same (λ i h. eq-eqb _ _ (side-sums-equal b i (omega arith)))))
+          (counts-cared-correct .1 (b .cared))

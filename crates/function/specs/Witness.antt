@@ -1,12 +1,13 @@
--- A witness: a count for each row, and when it balances (document 01, "Table, gate, witness"; the field's term is a certificate of
--- summability). Definitions only. Assumes nothing.
+-- A witness: a count for each row, when it balances, and the test of it (document 01, "Table, gate, witness"; the field's term is a
+-- certificate of summability). `balances-correct` of proofs/ joins the two. Definitions only. Assumes nothing.
 use mathlib.Core.Path.{_≡_}
-use mathlib.Core.Bool.{Bool, true, false}
+use mathlib.Core.Bool.{Bool, true, false, _&&_, _||_}
 use mathlib.Core.List.{List}
 use Prim.Native.Nat.{ℕ, zero, suc, _+_, _*_, _≤_, _<_}
+use lib.Dec.{ltb, eqb}
 use lib.ListN.{getD, set, replicate}
 use Rattle.numbers.specs.Sum.{sumBelow}
-use Rattle.numbers.specs.Tests.{sameBool}
+use Rattle.numbers.specs.Tests.{sameBool, allBelow}
 use Rattle.function.specs.Function.{Function, levels, rows}
 
 -- the level of input i, from 1 on, in a row; input 0 is the constant 1, so that a sum over it counts whole rows
@@ -29,7 +30,18 @@ pub record Balances (f : Function) (count : ℕ → ℕ) : Type 0 where
   pub total : sideSum f true count 0 ≡ sideSum f false count 0
   pub above : 0 < sideSum f true count 0
   pub inputs : (i : ℕ) → 1 ≤ i → i ≤ f .places → sideSum f true count i ≡ sideSum f false count i
-  pub cared : (r : ℕ) → f .cared r ≡ false → count r ≡ 0
+  pub cared : (r : ℕ) → r < rows f → f .cared r ≡ false → count r ≡ 0
+
+-- the test that rows that are not cared for have no count
+unfoldable pub countsCared : Function → (ℕ → ℕ) → Bool
+unfolding allBelow
+countsCared f count = allBelow (rows f) (λ r. f .cared r || eqb (count r) 0)
+
+-- the test that counts balance: the totals of input 0, those of inputs 1 to n, and no count on a row that is not cared for
+unfoldable pub balances : Function → (ℕ → ℕ) → Bool
+unfolding allBelow sideSum countsCared
+balances f count =
+    ltb 0 (sideSum f true count 0) && allBelow (suc (f .places)) (λ i. eqb (sideSum f true count i) (sideSum f false count i)) && countsCared f count
 
 -- the count of a row in an array
 abbrev pub countOf : List ℕ → ℕ → ℕ

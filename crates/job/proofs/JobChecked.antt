@@ -11,7 +11,8 @@ use Rattle.cell.specs.declared.refusal.Status.the-variants as Status′
 use Rattle.cell.specs.Answers.{status}
 use Rattle.cell.specs.Refusal.{Rule, Answered, refused, checked, NoneBroken, also}
 use Rattle.cell.proofs.RefusalLaws.{refused-first-broken, first-broken-refused, none-broken-answered}
-use Rattle.cell.proofs.TableChecked.{status-refused, done-none-broken, kept-inputs, others-kept, all-kept}
+use Rattle.cell.proofs.StatusLaws.{status-refused, done-none-broken}
+use Rattle.cell.proofs.TableChecked.{kept-inputs, others-kept, all-kept}
 use Rattle.job.specs.declared.job.Job.{Job}
 use Rattle.types.specs.declared.stage.Stage.{Stage}
 use Rattle.types.specs.declared.stage.Stage.the-variants.{Open, Found, Looped, Binate}

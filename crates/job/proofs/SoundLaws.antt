@@ -11,22 +11,21 @@ use Rattle.state.specs.Sound.{SoundIn}
 use Rattle.state.proofs.SoundBounds as state
 use Rattle.state.proofs.SoundLaws as test
 use Rattle.job.specs.declared.job.Job.{Job}
-use Rattle.job.specs.Machine.{stateOf}
 use Rattle.job.specs.Sound.{Sound, isSound}
 pub use Rattle.state.proofs.SoundBounds.{in-range-search, sound-current, sound-copied, table-current, table-copied}
 
 -- the test of a sound job says so
 pub is-sound-correct : (j : Job) → isSound j ≡ true ↔ Sound j
-is-sound-correct j = test.is-sound-correct (j .table) (stateOf j)
+is-sound-correct j = test.is-sound-correct (functionOf (j .table)) (j .state)
 
 -- what a stage asks, of a job in that stage
-pub sound-in : (stage : Stage) (j : Job) → Sound j → j .stage ≡ stage → SoundIn (functionOf (j .table)) stage (stateOf j)
+pub sound-in : (stage : Stage) (j : Job) → Sound j → j .state .stage ≡ stage → SoundIn (functionOf (j .table)) stage (j .state)
 sound-in stage j s e = state.sound-in s stage e
 
 -- a row past the table has no count
-pub sound-past : (j : Job) → Sound j → (r : ℕ) → rows (j .table) ≤ r → getD (j .counts) r 0 ≡ 0
+pub sound-past : (j : Job) → Sound j → (r : ℕ) → rows (j .table) ≤ r → getD (j .state .counts) r 0 ≡ 0
 sound-past j s = state.sound-past s
 
 -- each count of a sound job that is not binate is at most K
-pub sound-count : (j : Job) → Sound j → j .stage ≢ Binate → (r : ℕ) → getD (j .counts) r 0 ≤ j .k
+pub sound-count : (j : Job) → Sound j → j .state .stage ≢ Binate → (r : ℕ) → getD (j .state .counts) r 0 ≤ j .state .k
 sound-count j s = state.sound-count s

@@ -17,9 +17,9 @@ use Rattle.types.specs.declared.stage.Stage.{Stage}
 use Rattle.types.specs.declared.stage.Stage.the-variants.{Open, Found, Looped, Binate}
 use Rattle.job.specs.declared.job.Started.{Started}
 use Rattle.job.specs.declared.job.Carried.{Carried}
-use Rattle.job.specs.Machine.{run, fresh, startJob}
+use Rattle.job.specs.Machine.{run, fresh, decided, startJob}
 use Rattle.function.specs.Witness.{zeros}
-pub use Rattle.state.specs.Machine.{callBudget}
+pub use Rattle.state.specs.Machine.{callBudget, isEnded}
 use Rattle.job.specs.Sound.{cap, isSound}
 
 -- ---- fresh: 2, 3
@@ -37,7 +37,7 @@ started t (refused n) = record { status = Status′.Refused n; job = startJob t 
 
 -- the job of a table after one carry-on of the whole call budget
 abbrev pub decidedJob : Table → Answered Job
-decidedJob t = checked (tableRules t []) (answered (run callBudget (fresh t)))
+decidedJob t = checked (tableRules t []) (answered (decided t))
 
 -- ---- carry-on: 2, 3, 9, 10, the ended answer, 11
 
@@ -51,7 +51,7 @@ budgetRange b = rule 10 (eqb b 0 || ltb callBudget b)
 
 -- 11: K + budget above the cap
 abbrev pub pastCap : Job → ℕ → Rule
-pastCap j b = rule 11 (ltb cap (j .k + b))
+pastCap j b = rule 11 (ltb cap (j .state .k + b))
 
 -- the rules of a job, before the other rules of every call that takes one: 2, 3, 9
 abbrev pub jobRules : Job → List Rule → List Rule
@@ -70,22 +70,22 @@ ifOpen Binate opened ended = ended
 
 -- an open job runs by its budget, or to its end; an ended one stays as it is, whatever the cap
 abbrev pub carryOn : Job → ℕ → Answered Job
-carryOn j b = checked (jobRules j (budgetRange b ∷ [])) (ifOpen (j .stage) (checked (pastCap j b ∷ []) (answered (run b j))) (answered j))
+carryOn j b = checked (jobRules j (budgetRange b ∷ [])) (ifOpen (j .state .stage) (checked (pastCap j b ∷ []) (answered (run b j))) (answered j))
 
 -- the job after the call with the corrections made in it; beside a refusal the job as it came in, and 0
 abbrev pub carried : Job → Answered Job → Carried
-carried j (answered next) = record { status = Status′.Done; job = next; made = next .k - j .k }
+carried j (answered next) = record { status = Status′.Done; job = next; made = next .state .k - j .state .k }
 carried j (refused n) = record { status = Status′.Refused n; job = j; made = 0 }
 
 -- ---- what an ended job has
 
 -- the gate of a found job: weights ai, and T = b
 abbrev pub gateOf : Job → Gate
-gateOf j = record { n = j .table .n; weights = j .v .a; threshold = j .v .b }
+gateOf j = record { n = j .table .n; weights = j .state .v .a; threshold = j .state .v .b }
 
 -- the witness of a looped or binate job: its counts
 abbrev pub witnessOf : Job → Witness
-witnessOf j = record { counts = j .counts }
+witnessOf j = record { counts = j .state .counts }
 
 -- what stands where there is no gate, and where there is no witness: zeros
 abbrev pub noGate : Gate

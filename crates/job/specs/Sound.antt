@@ -3,12 +3,11 @@
 use mathlib.Core.Bool.{Bool}
 use Rattle.state.specs.Sound as state
 use Rattle.job.specs.declared.job.Job.{Job}
-use Rattle.job.specs.Machine.{stateOf}
 use Rattle.table.specs.Table.{functionOf}
 pub use Rattle.state.specs.Sound.{cap, markFor}
 
 abbrev pub Sound : Job → Type 0
-Sound j = state.Sound (functionOf (j .table)) (stateOf j)
+Sound j = state.Sound (functionOf (j .table)) (j .state)
 
 abbrev pub isSound : Job → Bool
-isSound j = state.isSound (j .table) (stateOf j)
+isSound j = state.isSound (functionOf (j .table)) (j .state)

@@ -1,34 +1,27 @@
 // A job: the state of the stepping machine on one table, made fresh and carried on.
 use cell::refusal::Status;
 use cell::refusal::table_status;
-use lanes::steps::step_table;
+use correction::steps::step_table;
 use soundness::sound::CAP;
 use soundness::sound::is_sound;
 use stepping::decided::CALL_BUDGET;
-use stepping::decided::decided_by;
+use stepping::decided::decided_alone;
 use stepping::start::fresh_state;
 use stepping::start::start_state;
 use stepping::stepping::is_ended;
-use stepping::stepping::steps;
+use stepping::stepping::run;
 use types::stage::Stage;
 use types::state::State;
 use types::table::Table;
-use types::vector::Vector;
 ghost use mathlib.Core.Path.{_≡_};
 ghost use Rattle.cell.specs.Answers.{status};
 ghost use Rattle.cell.specs.Refusal.{refused};
-ghost use Rattle.job.specs.Machine.{stateOf, jobOf};
 ghost use Rattle.job.specs.Calls.{jobChecked, freshJob, started, decidedJob, carryOn, carried};
 
-// K corrections made (k), the vector v, the mark M with the copy s of v taken there, and a count for each row since.
+// A table with the state of the machine on it.
 pub struct Job {
     pub table: Table,
-    pub k: u32,
-    pub v: Vector,
-    pub mark: u32,
-    pub s: Vector,
-    pub counts: [u32; 256],
-    pub stage: Stage,
+    pub state: State,
 }
 
 // What making a job gives.
@@ -44,50 +37,16 @@ pub struct Carried {
     pub made: u32,
 }
 
-// Returns the machine's state of a job.
-fn state_of(job: Job) -> State
-    ensures { λ r. ⌜ r ≡ stateOf job ⌝ }
-{
-    let v = job.v;
-    let s = job.s;
-    let counts = job.counts;
-    let stage = job.stage;
-    State {
-        k: job.k,
-        v,
-        mark: job.mark,
-        s,
-        counts,
-        stage,
-    }
-}
-
-// Returns the job of a table and the machine's state on it.
-fn job_of(table: Table, state: State) -> Job
-    ensures { λ r. ⌜ r ≡ jobOf table state ⌝ }
-{
-    let v = state.v;
-    let s = state.s;
-    let counts = state.counts;
-    let stage = state.stage;
-    Job {
-        table,
-        k: state.k,
-        v,
-        mark: state.mark,
-        s,
-        counts,
-        stage,
-    }
-}
-
 // Returns the answer for a table that is refused: the job with all numbers 0.
 fn not_started(table: Table, number: u8) -> Started
     ensures { λ r. ⌜ r ≡ started table (refused number) ⌝ }
 {
     Started {
         status: Status::Refused(number),
-        job: job_of(table, start_state([0u32; 256], Stage::Open)),
+        job: Job {
+            table,
+            state: start_state([0u32; 256], Stage::Open),
+        },
     }
 }
 
@@ -100,7 +59,7 @@ pub fn job_status(job: Job) -> Status
     if let Status::Refused(number) = status {
         return Status::Refused(number);
     }
-    if !is_sound(table, state_of(job)) {
+    if !is_sound(table, job.state) {
         return Status::Refused(9);
     }
     Status::Done
@@ -123,7 +82,10 @@ impl Job {
         }
         Started {
             status: Status::Done,
-            job: job_of(table, fresh_state(table)),
+            job: Job {
+                table,
+                state: fresh_state(table),
+            },
         }
     }
 
@@ -135,10 +97,12 @@ impl Job {
         if let Status::Refused(number) = status {
             return not_started(table, number);
         }
-        let steps = step_table();
         Started {
             status: Status::Done,
-            job: job_of(table, decided_by(table, &steps)),
+            job: Job {
+                table,
+                state: decided_alone(table),
+            },
         }
     }
 
@@ -154,7 +118,8 @@ impl Job {
         if budget == 0 || Job::CALL_BUDGET < budget {
             return refused(self, 10);
         }
-        let stage = self.stage;
+        let state = self.state;
+        let stage = state.stage;
         if is_ended(stage) {
             return Carried {
                 status: Status::Done,
@@ -162,13 +127,16 @@ impl Job {
                 made: 0,
             };
         }
-        if Job::CAP - budget < self.k {
+        if Job::CAP - budget < state.k {
             return refused(self, 11);
         }
         let table = self.table;
-        let step = step_table();
-        let next = job_of(table, steps(table, state_of(self), budget, &step));
-        let made = next.k - self.k;
+        let steps = step_table();
+        let next = Job {
+            table,
+            state: run(table, state, budget, &steps),
+        };
+        let made = next.state.k - state.k;
         Carried {
             status: Status::Done,
             job: next,

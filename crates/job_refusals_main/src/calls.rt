@@ -4,13 +4,13 @@ use cell::refusal::Status;
 use job::job::Carried;
 use job::job::Job;
 use job::job::job_status;
-use samples::compare::is_gate_of;
-use samples::compare::same_job;
-use samples::compare::same_table;
+use papers::show;
 use table::witness::same_counts;
+use testing::compare::is_gate_of;
+use testing::compare::same_job;
+use testing::compare::same_table;
 use types::table::Table;
 use types::vector::Vector;
-use vectors::show;
 use view::shown::Shown;
 use view::shown::row_fails;
 
@@ -46,11 +46,11 @@ fn shown(job: Job, shown: Shown) {
     print::part(
         b" v",
         is_gate_of(gate, 0, zero),
-        is_gate_of(gate, job.table.n, job.v),
+        is_gate_of(gate, job.table.n, job.state.v),
     );
     let witness = shown.witness;
     let shown_counts = witness.counts;
-    let counts = job.counts;
+    let counts = job.state.counts;
     print::part(
         b" counts",
         same_counts(shown_counts, [0u32; 256]),

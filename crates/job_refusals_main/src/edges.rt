@@ -1,4 +1,4 @@
-// Cases by what is asked: one a line, in the form that `samples::make` reads. A line of three words asks for the fresh job of its table.
+// Cases by what is asked: one a line, in the form that `testing::make` reads. A line of three words asks for the fresh job of its table.
 
 // The fresh job: of tables of each kind and size, and at the edges of 2 and 3.
 pub const FRESH: [u8; 741] = *b"\

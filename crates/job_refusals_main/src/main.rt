@@ -5,11 +5,11 @@ mod edges;
 mod print;
 mod soundness;
 
-use samples::make;
-use vectors::line::line_end;
-use vectors::line::table_of;
-use vectors::show;
-use vectors::text::word;
+use papers::line::line_end;
+use papers::line::table_of;
+use papers::show;
+use papers::text::word;
+use testing::make;
 
 // Runs each line.
 fn run(lines: &[u8]) {

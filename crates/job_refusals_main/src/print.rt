@@ -1,9 +1,9 @@
 // The parts of an answer on standard output.
 use cell::refusal::Status;
 use job::job::Job;
-use samples::compare::letter;
+use papers::show;
+use testing::compare::letter;
 use types::vector::Vector;
-use vectors::show;
 use view::shown::Verdict;
 
 // Writes done or a refusal's number.
@@ -47,19 +47,20 @@ pub fn kept(name: &[u8], is_kept: bool) {
 
 // Writes the numbers and the stage of a job.
 pub fn job(job: Job) {
+    let state = job.state;
     show::word(b" K");
-    show::number(job.k as u64);
+    show::number(state.k as u64);
     show::word(b" M");
-    show::number(job.mark as u64);
+    show::number(state.mark as u64);
     let n = job.table.n as usize;
     show::word(b" v");
-    vector(job.v, n);
+    vector(state.v, n);
     show::word(b" s");
-    vector(job.s, n);
+    vector(state.s, n);
     show::word(b" counts");
-    let counts = job.counts;
+    let counts = state.counts;
     pairs(counts);
-    let stage = job.stage;
+    let stage = state.stage;
     show::word(b" stage ");
     show::word(&[letter(stage)]);
 }

@@ -1,4 +1,4 @@
-// Cases by what the job holds: one a line, in the form that `samples::make` reads.
+// Cases by what the job holds: one a line, in the form that `testing::make` reads.
 
 // Components of v and of s at K and one beyond, by a correction that leaves the other within; then K 0, K 1 and the cap.
 pub const LIMITS: [u8; 1284] = *b"\

@@ -6,11 +6,11 @@ use cell::refusal::Answer;
 use cell::refusal::Status;
 use job::job::Carried;
 use job::job::Job;
-use samples::compare::same_job;
+use papers::show;
+use testing::compare::same_job;
 use types::gate::Gate;
 use types::table::Table;
 use types::witness::Witness;
-use vectors::show;
 use view::shown::Verdict;
 use view::shown::row_fails;
 ghost use Prim.Native.Nat.{_≤_};
@@ -33,7 +33,7 @@ pub fn show_call(carried: Carried) -> u8 {
 fn show_verdict(job: Job) -> u8 {
     let shown = view::shown::show(job);
     let table = job.table;
-    let k = job.k as u64;
+    let k = job.state.k as u64;
     let verdict = shown.verdict;
     match verdict {
         Verdict::Gate => {

@@ -4,10 +4,10 @@ mod call;
 mod split;
 mod vector;
 
+use papers::data::FUNCTIONS;
+use papers::line::line_end;
+use papers::show;
 use vector::Outcome;
-use vectors::data::VECTORS;
-use vectors::line::line_end;
-use vectors::show;
 ghost use Prim.Native.Nat.{_^_, _≤_, _<_};
 ghost use lib.ListN.{length};
 
@@ -64,6 +64,6 @@ fn summary(gates: u64, witnesses: u64, given_up: u64, gates_k: u64) {
 }
 
 fn main() {
-    let lines = VECTORS;
+    let lines = FUNCTIONS;
     run(&lines);
 }

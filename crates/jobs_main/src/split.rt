@@ -1,9 +1,9 @@
 // A job carried on in many small calls.
 use job::job::Job;
-use samples::compare::letter;
-use samples::compare::same_job;
+use papers::show;
+use testing::compare::letter;
+use testing::compare::same_job;
 use types::table::Table;
-use vectors::show;
 
 // The most calls: with budgets 1 to 400 they make up to 80,200 corrections.
 const CALLS: u32 = 400;
@@ -16,7 +16,8 @@ struct Calls {
 
 // Whether the job is open.
 fn is_open(job: Job) -> bool {
-    let stage = job.stage;
+    let state = job.state;
+    let stage = state.stage;
     letter(stage) == b'O'
 }
 
@@ -44,6 +45,6 @@ pub fn show_split(job: Job) {
     if is_open(end) {
         show::word(b" open");
     } else {
-        show::same(calls.made == job.k as u64 && same_job(job, end));
+        show::same(calls.made == job.state.k as u64 && same_job(job, end));
     }
 }

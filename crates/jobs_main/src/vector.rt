@@ -2,9 +2,9 @@
 use crate::call::show_call;
 use crate::split::show_split;
 use job::job::Job;
-use vectors::line::table_of;
-use vectors::show;
-use vectors::text::word;
+use papers::line::table_of;
+use papers::show;
+use papers::text::word;
 
 // The verdict's letter after one call (G a gate, N a witness, S given up so far), and K.
 pub struct Outcome {
@@ -27,7 +27,10 @@ pub fn run(line: &[u8]) -> Outcome {
     if letter == b'S' {
         run_again(word(line, 0), job);
     }
-    Outcome { letter, k: job.k }
+    Outcome {
+        letter,
+        k: job.state.k,
+    }
 }
 
 // Prints the line of a second call.

@@ -1,5 +1,5 @@
 -- Sums that are made by doubling: an input makes, of the sums of the rows without it, those of their partners with it. The loop that does
--- so, one store a turn, the sums after so many inputs, and how large they are. Assumes nothing.
+-- so, one store a pass, the sums after so many inputs, and how large they are. Assumes nothing.
 use mathlib.Core.Path.{_≡_, refl, sym, _∙_, ap}
 use mathlib.Core.List.{List}
 use Prim.Native.Nat.{ℕ, suc, _+_, _*_, _-_, _^_, _≤_, _<_, min}
@@ -49,10 +49,10 @@ module _ (from half : ℕ) (weight : ℤ) (old : List ℤ) where
 -- ---- the sums after so many inputs
 
 -- a list has the distances of the rows of the low inputs among them, and the sums of the rows of the higher ones
-pub record SumsTo (ws : List ℤ) (th : ℤ) (place : ℕ) (held : List ℤ) : Type 0 where
-  pub size : length held ≡ 40
-  pub low : (q : ℕ) → q < 2 ^ min place 5 → getD held q (pos 0) ≡ distance ws th (level 2 q)
-  pub high : (h : ℕ) → h < 2 ^ (place - 5) → getD held (32 + h) (pos 0) ≡ weightedSum ws (level 2 (32 * h))
+pub record SumsTo (ws : List ℤ) (th : ℤ) (place : ℕ) (sums : List ℤ) : Type 0 where
+  pub size : length sums ≡ 40
+  pub low : (q : ℕ) → q < 2 ^ min place 5 → getD sums q (pos 0) ≡ distance ws th (level 2 q)
+  pub high : (h : ℕ) → h < 2 ^ (place - 5) → getD sums (32 + h) (pos 0) ≡ weightedSum ws (level 2 (32 * h))
 
 -- a sum of twice as many: one that was there, or that of a partner
 twice : (f : ℕ → ℤ) (from half : ℕ) (weight : ℤ) (old new : List ℤ) → Doubled from half half weight old new
@@ -61,7 +61,7 @@ twice : (f : ℕ → ℤ) (from half : ℕ) (weight : ℤ) (old new : List ℤ) 
     → (q : ℕ)
     → q < half + half
     → getD new (from + q) (pos 0) ≡ f q
-twice f from half weight old new d held partner q l = by (decLe half q)
+twice f from half weight old new d first partner q l = by (decLe half q)
   where
     by : Dec (half ≤ q) → getD new (from + q) (pos 0) ≡ f q
     by (yes up) =
@@ -71,10 +71,10 @@ twice f from half weight old new d held partner q l = by (decLe half q)
         let row : r + half ≡ q = omega arith in
         ap (λ (i : ℕ). getD new i (pos 0)) place
         ∙ d .more r below
-        ∙ ap (λ (z : ℤ). z +ℤ weight) (held r below)
+        ∙ ap (λ (z : ℤ). z +ℤ weight) (first r below)
         ∙ sym (partner r below)
         ∙ ap f row
-    by (no low) = d .before (from + q) (omega (arith, low)) ∙ held q (omega (arith, low))
+    by (no low) = d .before (from + q) (omega (arith, low)) ∙ first q (omega (arith, low))
 
 -- powers of two whose exponents are equal
 power : {m n : ℕ} → m ≡ n → 2 ^ m ≡ 2 ^ n
@@ -119,24 +119,24 @@ module _ (ws : List ℤ) (th : ℤ) (old new : List ℤ) where
       }
 
 -- before the first input there is row 0 alone
-pub sums-to-none : (ws : List ℤ) (th : ℤ) (held : List ℤ) → length held ≡ 40 → getD held 0 (pos 0) ≡ distance ws th (level 2 0)
-    → getD held 32 (pos 0) ≡ pos 0
-    → SumsTo ws th 0 held
-sums-to-none ws th held n first other =
+pub sums-to-none : (ws : List ℤ) (th : ℤ) (sums : List ℤ) → length sums ≡ 40 → getD sums 0 (pos 0) ≡ distance ws th (level 2 0)
+    → getD sums 32 (pos 0) ≡ pos 0
+    → SumsTo ws th 0 sums
+sums-to-none ws th sums n first other =
     record { size = n; low = λ q h. row q (omega arith); high = λ h k. block h (omega arith) }
   where
-    row : (q : ℕ) → q ≡ 0 → getD held q (pos 0) ≡ distance ws th (level 2 q)
+    row : (q : ℕ) → q ≡ 0 → getD sums q (pos 0) ≡ distance ws th (level 2 q)
     row q e = rw e first
 
-    block : (h : ℕ) → h ≡ 0 → getD held (32 + h) (pos 0) ≡ weightedSum ws (level 2 (32 * h))
+    block : (h : ℕ) → h ≡ 0 → getD sums (32 + h) (pos 0) ≡ weightedSum ws (level 2 (32 * h))
     block h e = rw e (other ∙ sym (row-zero ws))
 
 -- after the last they are those of the vector
-pub sums-to-all : (v : Vector) (held : List ℤ) → SumsTo (v .a) (v .b) 8 held → held ≡ vectorSums v
+pub sums-to-all : (v : Vector) (sums : List ℤ) → SumsTo (v .a) (v .b) 8 sums → sums ≡ vectorSums v
 unfolding vectorSums
-sums-to-all v held s = tabulate-getD (placeSum v) 40 (pos 0) held (s .size) (λ i l. at i l (decLe 32 i))
+sums-to-all v sums s = tabulate-getD (placeSum v) 40 (pos 0) sums (s .size) (λ i l. at i l (decLe 32 i))
   where
-    at : (i : ℕ) → i < 40 → Dec (32 ≤ i) → getD held i (pos 0) ≡ placeSum v i
+    at : (i : ℕ) → i < 40 → Dec (32 ≤ i) → getD sums i (pos 0) ≡ placeSum v i
     at i l (yes high) =
         let h = i - 32 in
         let place : i ≡ 32 + h = omega arith in
@@ -154,10 +154,10 @@ module _ (v : Vector) (m : ℕ) (eight : length (v .a) ≡ 8) (small : magnitude
   high-size : (h : ℕ) → h < 8 → natAbs (weightedSum (v .a) (level 2 (32 * h))) ≤ m
   high-size h l = rw (← sums-high v h l) (omega (arith, sums-narrow v m eight small 0 h (omega arith) l))
 
-  module _ (held : List ℤ) where
+  module _ (sums : List ℤ) where
     -- a partner's distance, as it is made
-    pub low-made : (place q : ℕ) → place < 5 → SumsTo (v .a) (v .b) place held → q < 2 ^ place
-        → natAbs (getD held (0 + q) (pos 0) +ℤ getD (v .a) place (pos 0)) ≤ m
+    pub low-made : (place q : ℕ) → place < 5 → SumsTo (v .a) (v .b) place sums → q < 2 ^ place
+        → natAbs (getD sums (0 + q) (pos 0) +ℤ getD (v .a) place (pos 0)) ≤ m
     low-made place q l s h =
         let before : 2 ^ min place 5 ≡ 2 ^ place = power (omega arith) in
         let half : 2 ^ place ≤ 16 = pow-mono {j = 4} (omega arith) in
@@ -165,8 +165,8 @@ module _ (v : Vector) (m : ℕ) (eight : length (v .a) ≡ 8) (small : magnitude
         (low-size (q + 2 ^ place) (omega arith))
 
     -- a partner's sum
-    pub high-made : (place h : ℕ) → 5 ≤ place → place < 8 → SumsTo (v .a) (v .b) place held → h < 2 ^ (place - 5)
-        → natAbs (getD held (32 + h) (pos 0) +ℤ getD (v .a) place (pos 0)) ≤ m
+    pub high-made : (place h : ℕ) → 5 ≤ place → place < 8 → SumsTo (v .a) (v .b) place sums → h < 2 ^ (place - 5)
+        → natAbs (getD sums (32 + h) (pos 0) +ℤ getD (v .a) place (pos 0)) ≤ m
     high-made place h up l s b =
         let half : 2 ^ (place - 5) ≤ 4 = pow-mono {j = 2} (omega arith) in
         rw (s .high h b, ← high-partner (v .a) place h up b) (high-size (h + 2 ^ (place - 5)) (omega arith))

@@ -3,11 +3,11 @@
 use mathlib.Core.Path.{_≡_, refl, sym, _∙_, ap}
 use mathlib.Core.Bool.{Bool, true, false}
 use mathlib.Core.List.{List}
-use Prim.Native.Nat.{ℕ, zero, suc, _+_, _*_, _-_, _%_, _^_, _≤_, _<_}
-use native.Mathlib.Nat.{one-mul, mod-eq-of-lt, mul-le-mul-right}
+use Prim.Native.Nat.{ℕ, zero, suc, _+_, _*_, _-_, _^_, _≤_, _<_}
+use native.Mathlib.Nat.{mul-le-mul-right}
 use native.Mathlib.Decide.{decLe}
 use native.Mathlib.Omega.{arith}
-use lib.Pow.{pow-lt, pow-add}
+use lib.Pow.{pow-add}
 use lib.ListN.{length, getD, take}
 use lib.Seq.{take-all}
 use lib.IntN.{ℤ, pos, negℤ, natAbs, _+ℤ_, _*ℤ_, +ℤ-idr}
@@ -66,10 +66,6 @@ pub sums-first : (v : Vector) → getD (vectorSums v) 32 (pos 0) ≡ pos 0
 sums-first v = sums-high v 0 (omega arith) ∙ row-zero (v .a)
 
 -- ---- rows of the higher inputs
-
--- the power of two that code makes by a shift
-pub shifted-one : (k : ℕ) → k < 64 → 1 * 2 ^ k % 2 ^ 64 ≡ 2 ^ k
-shifted-one k l = rw one-mul (mod-eq-of-lt (pow-lt l))
 
 -- a weighted sum is a distance from 0
 sum-distance : (ws : List ℤ) (r : ℕ) → distance ws (pos 0) (level 2 r) ≡ weightedSum ws (level 2 r)

@@ -1,4 +1,6 @@
+-- rows in blocks of 32
 pub mod Blocks
+-- a vector as 40 sums
 pub mod Sums
+-- numbers that stand for rows
 pub mod Codes
-pub mod Keys

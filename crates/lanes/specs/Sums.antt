@@ -27,7 +27,7 @@ magnitude v = natAbs (v .b) + sumBelow 8 (λ place. natAbs (getD (v .a) place (p
 
 -- a distance of a low row and a higher inputs' sum are together at most the limit in size
 abbrev pub Narrow : ℕ → List ℤ → Type 0
-Narrow limit held = (q h : ℕ) → q < 32 → h < 8 → natAbs (getD held q (pos 0)) + natAbs (getD held (32 + h) (pos 0)) ≤ limit
+Narrow limit sums = (q h : ℕ) → q < 32 → h < 8 → natAbs (getD sums q (pos 0)) + natAbs (getD sums (32 + h) (pos 0)) ≤ limit
 
 -- of two lists of sums, the second has, `half` places behind each of the first `count` sums from a place on, that sum with a weight
 -- added; at the other places it is as the first

@@ -1,13 +1,13 @@
 // One call of a list, and what the calls have come to.
 use cell::refusal::Status;
 use job::job::Job;
-use records::read::Kind;
-use records::reader::read;
-use samples::compare::same_job;
-use samples::parts::first_bytes;
-use samples::parts::least;
-use samples::tally;
-use samples::tally::Tally;
+use receiving::record::read;
+use testing::compare::same_job;
+use testing::parts::first_bytes;
+use testing::parts::least;
+use testing::tally;
+use testing::tally::Tally;
+use types::kind::Kind;
 use writers::write::Written;
 use writers::write::save;
 
@@ -65,7 +65,7 @@ pub fn carry_on(calls: Calls, budget: u32) -> Calls {
     let status = carried.status;
     let number = number_of(status);
     let job = carried.job;
-    let has_grown = before.k as u64 + carried.made as u64 == job.k as u64;
+    let has_grown = before.state.k as u64 + carried.made as u64 == job.state.k as u64;
     let is_right = has_grown && (number == 0 || same_job(before, job));
     let mut next = calls;
     next.job = job;

@@ -1,17 +1,17 @@
-// A list of calls on one job. A line is in the form that `samples::make` reads: the letter N stands for the fresh job of its table,
+// A list of calls on one job. A line is in the form that `testing::make` reads: the letter N stands for the fresh job of its table,
 // the
 // row's place has the most of a buffer's length, and the budget's place the most of an ordinary budget.
 use crate::calls;
 use crate::calls::Calls;
 use job::job::Job;
-use samples::compare::letter;
-use samples::compare::same_job;
-use samples::make;
-use samples::tally;
-use vectors::line::table_of;
-use vectors::show;
-use vectors::text::first;
-use vectors::text::word;
+use papers::line::table_of;
+use papers::show;
+use papers::text::first;
+use papers::text::word;
+use testing::compare::letter;
+use testing::compare::same_job;
+use testing::make;
+use testing::tally;
 
 // How many calls a list has.
 const CALLS: u32 = 300;
@@ -96,7 +96,8 @@ pub fn run(line: &[u8]) {
     let first_job = start(line);
     let calls = calls_on(first_job, line);
     let job = calls.job;
-    let stage = job.stage;
+    let state = job.state;
+    let stage = state.stage;
     show::word(word(line, 0));
     tally::print(b" carried", calls.carried);
     tally::print(b" saved", calls.saved);
@@ -105,7 +106,7 @@ pub fn run(line: &[u8]) {
     show::word(b" made");
     show::number(calls.made);
     show::word(b" K");
-    show::number(job.k as u64);
+    show::number(state.k as u64);
     show::word(b" stage ");
     show::word(&[letter(stage)]);
     show::same(same_job(job, unbroken(first_job, calls.budgets)));

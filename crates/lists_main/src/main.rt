@@ -4,7 +4,7 @@ mod calls;
 mod list;
 mod starts;
 
-use vectors::line::line_end;
+use papers::line::line_end;
 
 // Runs each line.
 fn run(lines: &[u8]) {

@@ -1,15 +1,20 @@
--- Laws of `highest`, the power of two that a mark is set at: what it is, that it is the only one, and how it goes on from a number to the next.
--- Assumes nothing.
+-- Laws of powers of two: the one that code makes by a shift; and of `highest`, the one that a mark is set at, what it is, that it is the only
+-- one, and how it goes on from a number to the next. Assumes nothing.
 use mathlib.Core.Path.{_≡_, refl, sym, _∙_, ap}
 use mathlib.Core.Bool.{true, false}
-use Prim.Native.Nat.{ℕ, zero, suc, _+_, _*_, _-_, _^_, _≤_, _<_}
+use Prim.Native.Nat.{ℕ, zero, suc, _+_, _*_, _-_, _%_, _^_, _≤_, _<_}
+use native.Mathlib.Nat.{one-mul, mod-eq-of-lt}
 use native.Mathlib.Decide.{decLe}
 use native.Mathlib.Omega.{arith}
 use lib.Dec.{eqb}
-use lib.Pow.{pow-mono}
+use lib.Pow.{pow-lt, pow-mono}
 use lib.Count.{leadingZeros, leading-top}
 use borrow.Author.Tests.{eqb-true, eqb-false, ne-eqb}
 use Rattle.machine.specs.Power.{highest}
+
+-- 1 shifted by fewer places than a word has loses nothing
+pub one-shifted : (k : ℕ) → k < 64 → 1 * 2 ^ k % 2 ^ 64 ≡ 2 ^ k
+one-shifted k h = rw one-mul (mod-eq-of-lt (pow-lt h))
 
 -- p is the highest power of two that is not above k
 pub record IsHighest (k p : ℕ) : Type 0 where

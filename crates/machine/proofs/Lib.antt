@@ -1,9 +1,10 @@
+-- the highest power of two: what it is, and how it goes on from a number to the next
 pub mod HighestLaws
+-- the range of a vector, and how a correction widens it
 pub mod RangeLaws
-pub mod BinateLaws
+-- the distance of a partner and of row 0, and the size of a distance
 pub mod DistanceLaws
-pub mod ScanLaws
-pub mod WordLaws
-pub mod PairLaws
-pub mod TurnLaws
+-- the rows' values, and the list of them
 pub mod ValueLaws
+-- the search for the lowest failing row by blocks
+pub mod ScanLaws

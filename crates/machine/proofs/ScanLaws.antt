@@ -13,16 +13,16 @@ use lib.Seq.{getD-set-same, getD-set-other}
 use lib.IntN.{ℤ, pos, _+ℤ_}
 use lib.Signed.{ltZ}
 use borrow.Author.Tests.{lt-ltb, le-ltb}
-use Rattle.table.proofs.InputLaws.{found-some, found-none}
+use Rattle.table.proofs.InputLaws.{lowest-some, lowest-none}
 use Rattle.numbers.specs.Tests.{firstFrom}
 use Rattle.numbers.specs.Tabulate.{tabulate, Holds}
 use Rattle.numbers.proofs.FirstLaws.{IsFirst, first-some, first-none}
 use Rattle.numbers.proofs.TabulateLaws.{getD-tabulate}
 use Rattle.types.specs.declared.table.Table.{Table}
-use Rattle.table.specs.declared.inputs.Found.the-variants.{Row, Nowhere}
+use Rattle.table.specs.declared.inputs.Lowest.the-variants.{Row, Nowhere}
 use Rattle.table.specs.Table.{rows, value, functionOf}
 use Rattle.function.specs.Gate.{distance}
-use Rattle.table.specs.Inputs.{found}
+use Rattle.table.specs.Inputs.{lowestOf}
 use Rattle.table.proofs.TableLaws.{rows-le, level-past}
 use Rattle.types.specs.declared.vector.Vector.{Vector}
 use Rattle.function.specs.Failing.{margin, fails, failing}
@@ -33,36 +33,40 @@ use Rattle.function.specs.Function.{level}
 
 -- ---- distances that a list holds
 
-module _ (half : ℕ) (weight : ℤ) (held : List ℤ) where
+-- a list holds a value more where it is stored
+pub holds-more : {x : ℤ} (f : ℕ → ℤ) (m : ℕ) (list : List ℤ) → m < length list → x ≡ f m → Holds f m list → Holds f (m + 1) (set list m x)
+holds-more {x} f m list l e holds r k = by (decLe m r)
+  where
+    by : Dec (m ≤ r) → getD (set list m x) r (pos 0) ≡ f r
+    by (yes last) = let same : m ≡ r = omega arith in rw (← same) (getD-set-same list m x (pos 0) l ∙ e)
+    by (no before) = getD-set-other list m r x (pos 0) (λ same. before (omega arith)) ∙ holds r (omega (arith, before))
+
+module _ (half : ℕ) (weight : ℤ) (distances : List ℤ) where
   -- the rows below `half` keep their distances
-  pub doubled-low : (r : ℕ) → r < half → doubled half weight held r ≡ getD held r (pos 0)
+  pub doubled-low : (r : ℕ) → r < half → doubled half weight distances r ≡ getD distances r (pos 0)
   unfolding doubled
   doubled-low r h = rw (lt-ltb r half h)
 
   -- each of the others has one more weight than the row `half` below it
-  pub doubled-high : (q : ℕ) → doubled half weight held (half + q) ≡ getD held q (pos 0) +ℤ weight
+  pub doubled-high : (q : ℕ) → doubled half weight distances (half + q) ≡ getD distances q (pos 0) +ℤ weight
   unfolding doubled
   doubled-high q =
       let back : half + q - half ≡ q = omega arith in
-      rw (le-ltb (half + q) half (omega arith)) (ap (λ (p : ℕ). getD held p (pos 0) +ℤ weight) back)
+      rw (le-ltb (half + q) half (omega arith)) (ap (λ (p : ℕ). getD distances p (pos 0) +ℤ weight) back)
 
 -- ---- the rows passed
 
--- the distances of the rows below m are held, and none of those from `low` on fails
-pub record Passed (values : List Bool) (d : ℕ → ℤ) (low m : ℕ) (held : List ℤ) : Type 0 where
-  pub holds : Holds d m held
+-- a list holds the distances of the rows below m, and none of those from `low` on fails
+pub record Passed (values : List Bool) (d : ℕ → ℤ) (low m : ℕ) (distances : List ℤ) : Type 0 where
+  pub holds : Holds d m distances
   pub none-fails : (r : ℕ) → low ≤ r → r < m → failsAt values d r ≡ false
 
 -- a row more, with its distance stored, is passed where it does not fail
-pub passed-more : (values : List Bool) (d : ℕ → ℤ) (low m : ℕ) (held : List ℤ) (x : ℤ) → m < length held → x ≡ d m → failsAt values d m ≡ false
-    → Passed values d low m held
-    → Passed values d low (m + 1) (set held m x)
-passed-more values d low m held x k e f p = record { holds = λ r l. store r l (decLe m r); none-fails = λ r g l. fail r g l (decLe m r) }
+pub passed-more : (values : List Bool) (d : ℕ → ℤ) (low m : ℕ) (distances : List ℤ) (x : ℤ) → m < length distances → x ≡ d m → failsAt values d m ≡ false
+    → Passed values d low m distances
+    → Passed values d low (m + 1) (set distances m x)
+passed-more values d low m distances x k e f p = record { holds = holds-more d m distances k e (p .holds); none-fails = λ r g l. fail r g l (decLe m r) }
   where
-    store : (r : ℕ) → r < m + 1 → Dec (m ≤ r) → getD (set held m x) r (pos 0) ≡ d r
-    store r l (yes high) = let same : m ≡ r = omega arith in rw (← same) (getD-set-same held m x (pos 0) k ∙ e)
-    store r l (no below) = getD-set-other held m r x (pos 0) (λ same. below (omega arith)) ∙ p .holds r (omega (arith, below))
-
     fail : (r : ℕ) → low ≤ r → r < m + 1 → Dec (m ≤ r) → failsAt values d r ≡ false
     fail r g l (yes high) = let same : m ≡ r = omega arith in rw (← same) f
     fail r g l (no below) = p .none-fails r g (omega (arith, below))
@@ -82,40 +86,40 @@ fails-at-test values d r e same = e ∙ ap (λ (z : ℤ). ltZ (margin (getD valu
 
 -- the distances of these rows and their partners, from a list that holds those of the rows
 abbrev pub blockDistance : List ℤ → ℕ → List ℤ → ℕ → ℤ
-blockDistance ws place held = doubled (2 ^ place) (getD ws place (pos 0)) held
+blockDistance ws place distances = doubled (2 ^ place) (getD ws place (pos 0)) distances
 
 -- the search through the block
 abbrev pub blockSearch : List Bool → List ℤ → ℕ → List ℤ → Option ℕ
-blockSearch values ws place held = firstFrom (failsAt values (blockDistance ws place held)) (2 ^ place) (2 ^ place)
+blockSearch values ws place distances = firstFrom (failsAt values (blockDistance ws place distances)) (2 ^ place) (2 ^ place)
 
-module _ (ws : List ℤ) (th : ℤ) (values : List Bool) (place : ℕ) (held : List ℤ)
-    (passed : Passed values (rowDistance ws th) 0 (2 ^ place) held)
+module _ (ws : List ℤ) (th : ℤ) (values : List Bool) (place : ℕ) (distances : List ℤ)
+    (passed : Passed values (rowDistance ws th) 0 (2 ^ place) distances)
   where
     -- the rows before the block and in it have their distances
-    block-distance : (r : ℕ) → r < 2 ^ suc place → blockDistance ws place held r ≡ distance ws th (level 2 r)
+    block-distance : (r : ℕ) → r < 2 ^ suc place → blockDistance ws place distances r ≡ distance ws th (level 2 r)
     block-distance r h = by (decLe (2 ^ place) r)
       where
-        by : Dec (2 ^ place ≤ r) → blockDistance ws place held r ≡ distance ws th (level 2 r)
+        by : Dec (2 ^ place ≤ r) → blockDistance ws place distances r ≡ distance ws th (level 2 r)
         by (yes high) =
             let q = r - 2 ^ place in
             let below : q < 2 ^ place = omega arith in
             let split : r ≡ 2 ^ place + q = omega arith in
             let partner : q + 2 ^ place ≡ r = omega arith in
-            ap (blockDistance ws place held) split
-            ∙ doubled-high (2 ^ place) (getD ws place (pos 0)) held q
+            ap (blockDistance ws place distances) split
+            ∙ doubled-high (2 ^ place) (getD ws place (pos 0)) distances q
             ∙ ap (λ (z : ℤ). z +ℤ getD ws place (pos 0)) (passed .holds q below)
             ∙ sym (partner-distance ws th place q (level-past {n = place} q place below (omega arith)))
             ∙ ap (rowDistance ws th) partner
         by (no low) =
             let below : r < 2 ^ place = omega (arith, low) in
-            doubled-low (2 ^ place) (getD ws place (pos 0)) held r below ∙ passed .holds r below
+            doubled-low (2 ^ place) (getD ws place (pos 0)) distances r below ∙ passed .holds r below
 
     -- so they fail in the block as they do by their distances
-    block-fails : (r : ℕ) → r < 2 ^ suc place → failsAt values (blockDistance ws place held) r ≡ failsAt values (rowDistance ws th) r
-    block-fails r h = fails-at-ext values (blockDistance ws place held) (rowDistance ws th) r (block-distance r h)
+    block-fails : (r : ℕ) → r < 2 ^ suc place → failsAt values (blockDistance ws place distances) r ≡ failsAt values (rowDistance ws th) r
+    block-fails r h = fails-at-ext values (blockDistance ws place distances) (rowDistance ws th) r (block-distance r h)
 
     -- where no row of the block before m fails, no row before m does
-    none-before : (m : ℕ) → m ≤ 2 ^ suc place → ((r : ℕ) → 2 ^ place ≤ r → r < m → failsAt values (blockDistance ws place held) r ≡ false)
+    none-before : (m : ℕ) → m ≤ 2 ^ suc place → ((r : ℕ) → 2 ^ place ≤ r → r < m → failsAt values (blockDistance ws place distances) r ≡ false)
         → (r : ℕ)
         → r < m
         → failsAt values (rowDistance ws th) r ≡ false
@@ -126,9 +130,9 @@ module _ (ws : List ℤ) (th : ℤ) (values : List Bool) (place : ℕ) (held : L
         by (no low) = passed .none-fails r (omega arith) (omega (arith, low))
 
     -- a row that is found in the block is the lowest that fails
-    pub block-row : (q : ℕ) → found (blockSearch values ws place held) ≡ Row q → IsFirst (failsAt values (rowDistance ws th)) (2 ^ suc place) 0 q
+    pub block-row : (q : ℕ) → lowestOf (blockSearch values ws place distances) ≡ Row q → IsFirst (failsAt values (rowDistance ws th)) (2 ^ suc place) 0 q
     block-row q e =
-        let f = first-some (failsAt values (blockDistance ws place held)) (2 ^ place) (2 ^ place) q (found-some _ q e) in
+        let f = first-some (failsAt values (blockDistance ws place distances)) (2 ^ place) (2 ^ place) q (lowest-some _ q e) in
         record {
           start = omega arith;
           inside = omega arith;
@@ -137,10 +141,10 @@ module _ (ws : List ℤ) (th : ℤ) (values : List Bool) (place : ℕ) (held : L
         }
 
     -- where none is found, the block is passed
-    pub block-passed : (new : List ℤ) → found (blockSearch values ws place held) ≡ Nowhere → Holds (blockDistance ws place held) (2 ^ suc place) new
+    pub block-passed : (new : List ℤ) → lowestOf (blockSearch values ws place distances) ≡ Nowhere → Holds (blockDistance ws place distances) (2 ^ suc place) new
         → Passed values (rowDistance ws th) 0 (2 ^ suc place) new
     block-passed new e h =
-        let f = first-none (failsAt values (blockDistance ws place held)) (2 ^ place) (2 ^ place) (found-none _ e) in
+        let f = first-none (failsAt values (blockDistance ws place distances)) (2 ^ place) (2 ^ place) (lowest-none _ e) in
         record {
           holds = λ r l. h r l ∙ block-distance r l;
           none-fails = λ r g l. none-before (2 ^ suc place) (omega arith) (λ p high k. f p high (omega arith)) r l;
@@ -157,10 +161,10 @@ module _ (t : Table) (v : Vector) (values : List Bool) (small : t .n ≤ 8) (rea
       ap (λ (y : Bool). ltZ (margin y (distance (v .a) (v .b) (level 2 r))) (pos 1)) is
 
   -- the lowest of the rows below m that fails is what is found
-  pub scan-row : (m q : ℕ) → m ≤ rows t → IsFirst (failsAt values (rowDistance (v .a) (v .b))) m 0 q → Row q ≡ found (failing (functionOf t) v)
+  pub scan-row : (m q : ℕ) → m ≤ rows t → IsFirst (failsAt values (rowDistance (v .a) (v .b))) m 0 q → Row q ≡ lowestOf (failing (functionOf t) v)
   scan-row m q h f =
       sym
-      (ap found
+      (ap lowestOf
       (failing-at (functionOf t) v q
       record {
         start = omega arith;
@@ -170,5 +174,5 @@ module _ (t : Table) (v : Vector) (values : List Bool) (small : t .n ≤ 8) (rea
       }))
 
   -- where no row fails, nothing is
-  pub scan-nowhere : ((r : ℕ) → r < rows t → failsAt values (rowDistance (v .a) (v .b)) r ≡ false) → Nowhere ≡ found (failing (functionOf t) v)
-  scan-nowhere p = sym (ap found (none-failing (functionOf t) v (λ r h. sym (fails-read r h) ∙ p r h)))
+  pub scan-nowhere : ((r : ℕ) → r < rows t → failsAt values (rowDistance (v .a) (v .b)) r ≡ false) → Nowhere ≡ lowestOf (failing (functionOf t) v)
+  scan-nowhere p = sym (ap lowestOf (none-failing (functionOf t) v (λ r h. sym (fails-read r h) ∙ p r h)))

@@ -1,3 +1,4 @@
+-- the highest power of two
 pub mod Power
+-- the lists in which the search for the lowest failing row works
 pub mod Scan
-pub mod Words

@@ -1,15 +1,25 @@
 -- The lists in which the search for the lowest failing row works: the values of the rows, and the distances of the rows so far, of which an
 -- input makes twice as many. For the inside of the machine alone. Definitions only. Assumes nothing.
-use mathlib.Core.Bool.{Bool, false, cond}
+use mathlib.Core.Bool.{Bool, false, cond, _&&_}
 use mathlib.Core.List.{List}
 use Prim.Native.Nat.{ℕ, _-_}
 use lib.Dec.{ltb}
 use lib.ListN.{getD}
 use lib.IntN.{ℤ, pos, _+ℤ_}
 use lib.Signed.{ltZ}
+use Rattle.numbers.specs.Tabulate.{tabulate}
+use Rattle.table.specs.Table.{bitAt}
 use Rattle.function.specs.Function.{level}
 use Rattle.function.specs.Gate.{distance}
 use Rattle.function.specs.Failing.{margin}
+
+-- row r's value, and false past the rows of the table
+abbrev pub inTable : (rows : ℕ) → List ℕ → ℕ → Bool
+inTable rows bytes r = ltb r rows && bitAt bytes r
+
+-- the values of the rows below m; the others are false
+abbrev pub valuesBelow : ℕ → List ℕ → List Bool
+valuesBelow m bytes = tabulate 256 (inTable m bytes)
 
 -- the distance of a table's row
 abbrev pub rowDistance : List ℤ → ℤ → ℕ → ℤ
@@ -21,4 +31,4 @@ failsAt values distance r = ltZ (margin (getD values r false) (distance r)) (pos
 
 -- the distances of twice `half` rows: below `half` those that a list holds, and from there on that of the row `half` below and the weight
 unfoldable pub doubled : (half : ℕ) → ℤ → List ℤ → ℕ → ℤ
-doubled half weight held r = cond (ltb r half) (getD held r (pos 0)) (getD held (r - half) (pos 0) +ℤ weight)
+doubled half weight distances r = cond (ltb r half) (getD distances r (pos 0)) (getD distances (r - half) (pos 0) +ℤ weight)

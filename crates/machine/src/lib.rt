@@ -1,7 +1,5 @@
-// The parts of a step of the stepping machine: the vector and its correction, the search for the lowest failing row, powers of two,
-// and the counts of a binate table. The functions ask for at most eight inputs and a vector in its range.
-pub mod binate;
+// The parts of a step of the stepping machine: the vector and its correction, the search for the lowest failing row, and powers of two. The
+// functions ask for at most eight inputs and a vector in its range.
 pub mod power;
 pub mod scan;
 pub mod vector;
-pub mod words;

@@ -1,6 +1,6 @@
 // The search for the lowest failing row: the distances of the rows are made one from another, in the order of the rows, and the search
 // stops at the first that fails.
-use table::inputs::Found;
+use table::inputs::Lowest;
 use types::table::Table;
 use types::vector::Vector;
 ghost use mathlib.Core.Path.{_≡_};
@@ -13,10 +13,9 @@ ghost use Rattle.numbers.specs.Tests.{firstFrom};
 ghost use Rattle.numbers.specs.Tabulate.{tabulate, Holds};
 ghost use Rattle.table.specs.Table.{value, functionOf};
 ghost use Rattle.table.specs.Gate.{weightLimit, inRange};
-ghost use Rattle.table.specs.Inputs.{found};
+ghost use Rattle.table.specs.Inputs.{lowestOf};
 ghost use Rattle.function.specs.Failing.{margin, failing};
-ghost use Rattle.machine.specs.Scan.{failsAt, doubled};
-ghost use Rattle.machine.specs.Words.{valuesBelow};
+ghost use Rattle.machine.specs.Scan.{failsAt, doubled, valuesBelow};
 ghost use Rattle.function.specs.Gate.{distance};
 
 // Stores the values of the eight rows of a byte, where those of the rows before it stand. A byte 0 has nothing to store.
@@ -58,30 +57,30 @@ pub fn row_values(table: Table) -> [bool; 256]
 }
 
 // Whether a row of this value and distance fails: its margin is below 1.
-pub fn fails_by(value: bool, distance: i32) -> bool
+pub fn fails_by(value: bool, distance: i64) -> bool
     ensures { λ r. ⌜ r ≡ ltZ (margin value distance) (pos 1) ⌝ }
 {
     if value { distance < 1 } else { -1 < distance }
 }
 
 // Searches the rows from `half` to twice `half`: each has the distance of the row `half` below it and one more weight.
-fn search_block(distances: &mut [i32], values: &[bool; 256], half: usize, weight: i32) -> Found
+fn search_block(distances: &mut [i32], values: &[bool; 256], half: usize, weight: i32) -> Lowest
     requires { ⌜ (half ≤ 128) × (half + half ≤ length (now distances)) ⌝ }
     requires { ⌜ ((r : ℕ) → r < half → natAbs (getD (now distances) r (pos 0)) + natAbs weight < 2 ^ 31) ⌝ }
-    ensures { λ r. ⌜ r ≡ found (firstFrom (failsAt (now (values .entry)) (doubled half weight (now (distances .entry)))) half half) ⌝ }
-    ensures { λ r. ⌜ (r ≡ Found.Nowhere → Holds (doubled half weight (now (distances .entry))) (half + half) (now (distances .exit))) ⌝ }
+    ensures { λ r. ⌜ r ≡ lowestOf (firstFrom (failsAt (now (values .entry)) (doubled half weight (now (distances .entry)))) half half) ⌝ }
+    ensures { λ r. ⌜ (r ≡ Lowest.Nowhere → Holds (doubled half weight (now (distances .entry))) (half + half) (now (distances .exit))) ⌝ }
 {
     let mut at: usize = 0;
     while at < half {
         let row = half + at;
         let distance = distances[at] + weight;
         distances[row] = distance;
-        if fails_by(values[row], distance) {
-            return Found::Row(row);
+        if fails_by(values[row], distance as i64) {
+            return Lowest::Row(row);
         }
         at = at + 1;
     }
-    Found::Nowhere
+    Lowest::Nowhere
 }
 
 // Returns the lowest failing row. What `distances` held does not matter: it is room to work in.
@@ -90,23 +89,23 @@ pub fn first_failing(
     values: &[bool; 256],
     table: Table,
     v: Vector,
-) -> Found
+) -> Lowest
     requires { ⌜ (table .n ≤ 8) × (inRange weightLimit 8 (v .a) (v .b) ≡ true) × (now values ≡ tabulate 256 (value table)) ⌝ }
-    ensures { λ r. ⌜ r ≡ found (failing (functionOf table) v) ⌝ }
+    ensures { λ r. ⌜ r ≡ lowestOf (failing (functionOf table) v) ⌝ }
 {
     let first = 0 - v.b;
-    if fails_by(values[0], first) {
-        return Found::Row(0);
+    if fails_by(values[0], first as i64) {
+        return Lowest::Row(0);
     }
     distances[0] = first;
     let n = table.n as usize;
     let mut place: usize = 0;
     while place < n {
         let block = search_block(distances, values, 1usize << place, v.a[place]);
-        if let Found::Row(row) = block {
-            return Found::Row(row);
+        if let Lowest::Row(row) = block {
+            return Lowest::Row(row);
         }
         place = place + 1;
     }
-    Found::Nowhere
+    Lowest::Nowhere
 }

@@ -1,5 +1,6 @@
 // The vector v = (a1..an, b) of a job: a weight for each place, and the threshold.
 use table::gate::in_range;
+use types::gate::Gate;
 use types::vector::Vector;
 ghost use mathlib.Core.Path.{_≡_};
 ghost use mathlib.Core.Bool.{true};
@@ -50,4 +51,16 @@ pub fn vector_within(v: Vector, n: u8, k: u32) -> bool
 {
     let a = v.a;
     in_range(a, v.b, n, k)
+}
+
+// Returns the gate of n inputs with the weights and T of a vector: weights ai, and T = b.
+pub fn vector_gate(n: u8, v: Vector) -> Gate
+    ensures { λ r. ⌜ r ≡ record { n = n; weights = v .a; threshold = v .b } ⌝ }
+{
+    let weights = v.a;
+    Gate {
+        n,
+        weights,
+        threshold: v.b,
+    }
 }

@@ -128,12 +128,6 @@ parts-D p n = parts-difference p n
 pub D-eq : (p n q m : ℕ) → p + m ≡ q + n → D p n ≡ D q m
 D-eq p n q m h = omega (integers, parts-D p n, parts-D q m)
 
-pub D-le : (p n q m : ℕ) → p + m ≤ q + n → D p n ≤ℤ D q m
-D-le p n q m h = omega (integers, parts-D p n, parts-D q m)
-
-pub le-D : (p n q m : ℕ) → D p n ≤ℤ D q m → p + m ≤ q + n
-le-D p n q m h = omega (integers, parts-D p n, parts-D q m)
-
 -- an integer is the difference of its parts
 pub rep : (a : ℤ) → a ≡ D (up a) (dn a)
 rep a = omega (integers, parts-D (up a) (dn a))

@@ -1,5 +1,5 @@
 -- Laws of `tabulate`, the list of a function's values: its length and elements, two lists that are equal, and the loop that fills an
--- array from the front, one store a turn: after i turns the array is `filled f old i`. Assumes nothing.
+-- array from the front: after i stores the array is `filled f old i`. Assumes nothing.
 use mathlib.Core.Path.{_≡_, refl, sym, _∙_, ap, ap₂}
 use mathlib.Core.List.{List, [], _∷_, _++_, append-nil, append-assoc}
 use mathlib.Core.Logic.{⊎-elim}
@@ -49,7 +49,7 @@ module _ {A : Type 0} (f : ℕ → A) where
       ∙ set-at (tabulate i f) (getD old i (f i)) (drop (suc i) old) (f i) i (length-tabulate i)
       ∙ sym (append-assoc (tabulate i f) (f i ∷ []) (drop (suc i) old))
 
-  -- a store of f i at i is one turn more
+  -- a store of f i at i is one store more
   pub filled-more : {l : List A} {x : A} (old : List A) (i : ℕ) → i < length old → l ≡ filled f old i → x ≡ f i → set l i x ≡ filled f old (i + 1)
   filled-more old i h e k = rw (e, k, add-one) (filled-suc old i h)
 

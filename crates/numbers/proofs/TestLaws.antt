@@ -1,7 +1,8 @@
--- What a test says, and the test of what holds: of two tests at once, of tests that agree, of a test at each number below a bound, and
--- of a limit on the numbers of a list. Assumes nothing.
+-- What a test says, and the test of what holds: of two tests at once, of tests that agree, of equal integers, of a test at each number
+-- below a bound, and of a limit on the numbers of a list. Assumes nothing.
 use mathlib.Core.Path.{_≡_, refl, sym, _∙_, subst}
-use mathlib.Core.Bool.{Bool, true, false, Bool·beq, _&&_, _||_}
+use mathlib.Core.Bool.{Bool, true, false, Bool·beq, not, _&&_, _||_}
+use mathlib.Core.Logic.{_↔_}
 use mathlib.Core.List.{List, [], _∷_}
 use Prim.Native.Nat.{ℕ, zero, suc, _+_, _≤_, _<_}
 use native.Mathlib.Decide.{ℕ-discrete}
@@ -10,8 +11,11 @@ use native.Mathlib.Omega.{arith}
 use lib.Dec.{leb}
 use lib.ListN.{length, drop, getD, drop-of-length-le}
 use lib.Seq.{drop-cons}
+use lib.IntN.{ℤ}
+use lib.Signed.{leZ}
 use borrow.Author.Tests.{lt-leb, le-leb, leb-true}
-use Rattle.numbers.specs.Tests.{sameBool, allAtMost, allBelow}
+use Rattle.numbers.specs.Tests.{sameBool, sameZ, allAtMost, allBelow}
+use Rattle.numbers.proofs.Int.{integers}
 
 -- no test both fails and passes
 pub no-true : false ≡ true → ⊥
@@ -57,6 +61,11 @@ pub or-neither : {a b : Bool} → a ≡ false → b ≡ false → (a || b) ≡ f
 or-neither {a = true} {b = b} p q = p
 or-neither {a = false} {b = b} p q = q
 
+-- a test that passes wherever another does
+pub where-passed : (a b : Bool) {A : Type 0} → (a ≡ true ↔ A) → (not a || b) ≡ true ↔ (A → b ≡ true)
+where-passed true b f = (λ e p. e, λ h. h (f .0 refl))
+where-passed false b f = (λ e p. absurd (no-true (f .1 p)), λ h. refl)
+
 -- tests that agree are equal
 pub same-bool-eq : (a b : Bool) → sameBool a b ≡ true → a ≡ b
 same-bool-eq true b e = sym e
@@ -79,9 +88,12 @@ same-bool-beq true false = refl
 same-bool-beq false true = refl
 same-bool-beq false false = refl
 
--- tests that differ do not agree
-pub same-bool-ne : (a b : Bool) → (a ≡ b → ⊥) → sameBool a b ≡ false
-same-bool-ne a b h = not-passed (sameBool a b) (λ e. h (same-bool-eq a b e))
+-- the test of two integers passes exactly if they are equal
+pub same-z-correct : (x y : ℤ) → sameZ x y ≡ true ↔ x ≡ y
+same-z-correct x y = (
+  λ e. (let l = and-left (leZ x y) (leZ y x) e in let g = and-right (leZ x y) (leZ y x) e in omega integers),
+  λ e. and-both {a = leZ x y} {b = leZ y x} (omega integers) (omega integers),
+)
 
 -- the test passes at each number below 0
 pub all-below-zero : (f : ℕ → Bool) → allBelow 0 f ≡ true

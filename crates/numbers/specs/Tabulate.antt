@@ -12,4 +12,4 @@ tabulate (suc m) f = tabulate m f ++ (f m ∷ [])
 
 -- a list of integers holds the values of f below m
 abbrev pub Holds : (ℕ → ℤ) → ℕ → List ℤ → Type 0
-Holds f m held = (r : ℕ) → r < m → getD held r (pos 0) ≡ f r
+Holds f m list = (r : ℕ) → r < m → getD list r (pos 0) ≡ f r

@@ -1,40 +1,46 @@
 -- What the struct that a reader returned says of the field: the number of a refusal, or the value and the position after it. One law for
 -- every struct of fields, and its two uses for each. Assumes nothing.
-use mathlib.Core.Path.{_≡_, refl, sym, _∙_, ap}
+use mathlib.Core.Path.{_≡_, refl, sym, _∙_, ap, subst}
+use mathlib.Core.Logic.{⊎-elim}
 use Prim.Native.Nat.{ℕ}
 use native.Mathlib.Omega.{arith}
 use lib.IntN.{ℤ}
+use denote.Enum.Declared.{tagOf}
+use types.Run.{OneOf}
 use Rattle.types.specs.declared.table.Table.{Table}
 use Rattle.cell.specs.declared.refusal.Status.{Status}
 use Rattle.cell.specs.declared.refusal.Status.the-variants as Status′
-use Rattle.cell.specs.Refusal.{answered, refused}
+use mathlib.Core.List.{List, [], _∷_}
+use Rattle.cell.specs.Refusal.{Answered, answered, refused}
 use Rattle.types.specs.declared.vector.Vector.{Vector}
 use Rattle.codec.specs.Field.{Field, Reading, field}
-use Rattle.codec.specs.RowList.{RowList, Pair}
-use Rattle.codec.specs.Head.{Head}
+use Rattle.codec.specs.Kind.{Family, tables, gates, witnesses, jobs}
+use Rattle.types.specs.declared.kind.Kind.{Kind}
+use Rattle.types.specs.declared.kind.Kind.the-variants as Kind′
+use Rattle.reading.specs.declared.kind.KindField.{KindField}
 use Rattle.reading.specs.declared.number.NumberField.{NumberField}
 use Rattle.reading.specs.declared.vector.SignedField.{SignedField}
 use Rattle.reading.specs.declared.vector.VectorField.{VectorField}
-use Rattle.reading.specs.declared.rows.PairField.{PairField}
-use Rattle.reading.specs.declared.rows.RowsField.{RowsField}
-use Rattle.reading.specs.declared.head.TableField.{TableField}
-use Rattle.reading.specs.declared.head.HeadField.{HeadField}
-use Rattle.reading.specs.Fields.{numberField, signedField, vectorField, pairField, rowsField, tableField, headField}
+use Rattle.reading.specs.declared.tables.BitsField.{BitsField}
+use Rattle.reading.specs.declared.tables.TableField.{TableField}
+use Rattle.types.proofs.kind.Kind.{the-type}
+use Rattle.reading.specs.Fields.{asKind, familyOf, kindField, numberField, signedField, vectorField, bitsField, tableField}
 
 -- the struct X of a reading of A: its status, and the field that it holds
-record Shows {A X : Type 0} (struct : Reading A → X) : Type 0 where
-  state : X → Status
-  held : X → Field A
-  done : (f : Field A) → state (struct (answered f)) ≡ Status′.Done
-  number : (n : ℕ) → state (struct (refused n)) ≡ Status′.Refused n
-  holds : (f : Field A) → held (struct (answered f)) ≡ f
+pub record Shows {A X : Type 0} (struct : Reading A → X) : Type 0 where
+  pub state : X → Status
+  pub held : X → Field A
+  pub done : (f : Field A) → state (struct (answered f)) ≡ Status′.Done
+  pub number : (n : ℕ) → state (struct (refused n)) ≡ Status′.Refused n
+  pub holds : (f : Field A) → held (struct (answered f)) ≡ f
 
+-- where it shows a refusal, the field was refused; where it is done, the field was read
 module _ {A X : Type 0} {struct : Reading A → X} (shows : Shows struct) where
-  shows-refused : (r : Reading A) {x : X} {n : ℕ} → x ≡ struct r → shows .state x ≡ Status′.Refused n → r ≡ refused n
+  pub shows-refused : (r : Reading A) {x : X} {n : ℕ} → x ≡ struct r → shows .state x ≡ Status′.Refused n → r ≡ refused n
   shows-refused (answered f) e k = let z : _≡_ {A = ℕ} 0 1 = cc (shows .done f) in absurd (omega arith)
   shows-refused (refused m) e k = cc (shows .number m)
 
-  shows-done : (r : Reading A) {x : X} → x ≡ struct r → shows .state x ≡ Status′.Done → r ≡ answered (shows .held x)
+  pub shows-done : (r : Reading A) {x : X} → x ≡ struct r → shows .state x ≡ Status′.Done → r ≡ answered (shows .held x)
   shows-done (answered f) e k = ap answered (sym (ap (shows .held) e ∙ shows .holds f))
   shows-done (refused n) e k = let z : _≡_ {A = ℕ} 0 1 = cc (shows .number n) in absurd (omega arith)
 
@@ -81,35 +87,18 @@ vector-refused = shows-refused shows-vector
 pub vector-done : (r : Reading Vector) {x : VectorField} → x ≡ vectorField r → x .status ≡ Status′.Done → r ≡ answered (field (x .v) (x .next))
 vector-done = shows-done shows-vector
 
--- ---- a pair
+-- ---- bits of rows
 
--- the field that its struct holds
-abbrev pub pairOf : PairField → Field Pair
-pairOf x = field (record { row = x .row; count = x .count; fits = x .fits }) (x .next)
+abbrev shows-bits : Shows bitsField
+shows-bits = record { state = λ x. x .status; held = λ x. field (x .bits) (x .next); done = λ f. refl; number = λ n. refl; holds = λ f. refl }
 
-abbrev shows-pair : Shows pairField
-shows-pair = record { state = λ x. x .status; held = pairOf; done = λ f. refl; number = λ n. refl; holds = λ f. refl }
+-- they were refused
+pub bits-refused : (r : Reading (List ℕ)) {x : BitsField} {n : ℕ} → x ≡ bitsField r → x .status ≡ Status′.Refused n → r ≡ refused n
+bits-refused = shows-refused shows-bits
 
--- it was refused
-pub pair-refused : (r : Reading Pair) {x : PairField} {n : ℕ} → x ≡ pairField r → x .status ≡ Status′.Refused n → r ≡ refused n
-pair-refused = shows-refused shows-pair
-
--- it was read
-pub pair-done : (r : Reading Pair) {x : PairField} → x ≡ pairField r → x .status ≡ Status′.Done → r ≡ answered (pairOf x)
-pair-done = shows-done shows-pair
-
--- ---- a row list
-
-abbrev shows-rows : Shows rowsField
-shows-rows = record { state = λ x. x .status; held = λ x. field (record { counts = x .counts; kept = x .kept }) (x .next); done = λ f. refl; number = λ n. refl; holds = λ f. refl }
-
--- it was refused
-pub rows-refused : (r : Reading RowList) {x : RowsField} {n : ℕ} → x ≡ rowsField r → x .status ≡ Status′.Refused n → r ≡ refused n
-rows-refused = shows-refused shows-rows
-
--- it was read
-pub rows-done : (r : Reading RowList) {x : RowsField} → x ≡ rowsField r → x .status ≡ Status′.Done → r ≡ answered (field (record { counts = x .counts; kept = x .kept }) (x .next))
-rows-done = shows-done shows-rows
+-- they were read
+pub bits-done : (r : Reading (List ℕ)) {x : BitsField} → x ≡ bitsField r → x .status ≡ Status′.Done → r ≡ answered (field (x .bits) (x .next))
+bits-done = shows-done shows-bits
 
 -- ---- a table
 
@@ -124,15 +113,51 @@ table-refused = shows-refused shows-table
 pub table-done : (r : Reading Table) {x : TableField} → x ≡ tableField r → x .status ≡ Status′.Done → r ≡ answered (field (x .table) (x .next))
 table-done = shows-done shows-table
 
--- ---- a head
+-- ---- a kind
 
-abbrev shows-head : Shows headField
-shows-head = record { state = λ x. x .status; held = λ x. field (record { kind = x .kind; table = x .table }) (x .next); done = λ f. refl; number = λ n. refl; holds = λ f. refl }
+-- the family of the kind of a family
+pub family-back : (r : Answered Family) → familyOf (asKind r) ≡ r
+family-back (answered tables) = refl
+family-back (answered gates) = refl
+family-back (answered witnesses) = refl
+family-back (answered jobs) = refl
+family-back (refused n) = refl
+
+-- what the code's kind says of the family
+pub family-is : (r : Answered Family) {k : Kind} → k ≡ asKind r → r ≡ familyOf k
+family-is r e = sym (family-back r) ∙ ap familyOf (sym e)
+
+-- it is one of the kinds of a record
+abbrev pub Whole : Kind → Type 0
+Whole k = OneOf (0 ∷ 1 ∷ 2 ∷ 3 ∷ []) (tagOf the-type k)
+
+pub whole-family : (r : Answered Family) → Whole (asKind r) → (f : Family) × (r ≡ answered f)
+whole-family (answered f) k = (f, refl)
+whole-family (refused n) k = absurd (none k)
+  where
+    none : OneOf (0 ∷ 1 ∷ 2 ∷ 3 ∷ []) 4 → ⊥
+    none = ⊎-elim (λ e. omega arith) (⊎-elim (λ e. omega arith) (⊎-elim (λ e. omega arith) (λ e. omega arith)))
+
+-- a kind that is no refusal has a family
+pub kind-family : (k : Kind) → Whole k → (f : Family) × (familyOf k ≡ answered f)
+kind-family Kind′.Table w = (tables, refl)
+kind-family Kind′.Gate w = (gates, refl)
+kind-family Kind′.Witness w = (witnesses, refl)
+kind-family Kind′.Job w = (jobs, refl)
+kind-family (Kind′.Refused n) w = absurd (none w)
+  where
+    none : OneOf (0 ∷ 1 ∷ 2 ∷ 3 ∷ []) 4 → ⊥
+    none = ⊎-elim (λ e. omega arith) (⊎-elim (λ e. omega arith) (⊎-elim (λ e. omega arith) (λ e. omega arith)))
 
 -- it was refused
-pub head-refused : (r : Reading Head) {x : HeadField} {n : ℕ} → x ≡ headField r → x .status ≡ Status′.Refused n → r ≡ refused n
-head-refused = shows-refused shows-head
+pub kind-refused : (r : Reading Family) {x : KindField} {n : ℕ} → x ≡ kindField r → x .kind ≡ Kind′.Refused n → r ≡ refused n
+kind-refused (answered f) {x} {n} e k =
+    let number : answered (f .value) ≡ refused n = sym (family-back (answered (f .value))) ∙ ap familyOf (ap (λ (y : KindField). y .kind) (sym e) ∙ k) in
+    let z : _≡_ {A = ℕ} 0 1 = cc in
+    absurd (omega arith)
+kind-refused (refused m) e k = cc
 
--- it was read
-pub head-done : (r : Reading Head) {x : HeadField} → x ≡ headField r → x .status ≡ Status′.Done → r ≡ answered (field (record { kind = x .kind; table = x .table }) (x .next))
-head-done = shows-done shows-head
+-- it was read: its kind is of a family
+pub kind-done : (r : Reading Family) {x : KindField} → x ≡ kindField r → Whole (x .kind) → (f : Family) × (r ≡ answered (field f (x .next)))
+kind-done (answered g) {x} e k = (g .value, ap (λ (y : KindField). answered (field (g .value) (y .next))) (sym e))
+kind-done (refused n) {x} e k = let none = whole-family (refused n) (subst (λ (y : KindField). Whole (y .kind)) e k) .1 in let z : _≡_ {A = ℕ} 0 1 = cc in absurd (omega arith)

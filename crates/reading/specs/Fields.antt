@@ -1,25 +1,56 @@
 -- What the structs of read fields stand for: the value with the position after it, or the number of a refusal with zeros beside it.
 -- Definitions only. Assumes nothing.
-use mathlib.Core.Bool.{false}
+use mathlib.Core.List.{List}
 use Prim.Native.Nat.{ℕ}
 use lib.ListN.{replicate}
 use lib.IntN.{ℤ, pos}
 use Rattle.types.specs.declared.table.Table.{Table}
-use Rattle.cell.specs.Refusal.{answered, refused}
+use Rattle.cell.specs.Refusal.{Answered, answered, refused, andThen}
 use Rattle.cell.specs.declared.refusal.Status.the-variants as Status′
 use Rattle.types.specs.declared.vector.Vector.{Vector}
 use Rattle.function.specs.Vector.{zeroVector}
-use Rattle.function.specs.Witness.{zeros}
 use Rattle.codec.specs.Field.{Reading}
-use Rattle.codec.specs.RowList.{RowList, Pair}
-use Rattle.codec.specs.Head.{Head}
+use Rattle.codec.specs.Kind.{Family, tables, gates, witnesses, jobs, everyFamily, tablesAlone}
+use Rattle.codec.specs.TableField.{tableAt}
+use Rattle.types.specs.declared.kind.Kind.{Kind}
+use Rattle.types.specs.declared.kind.Kind.the-variants as Kind′
+use Rattle.reading.specs.declared.kind.Takes.{Takes}
+use Rattle.reading.specs.declared.kind.Takes.the-variants as Takes′
+use Rattle.reading.specs.declared.kind.KindField.{KindField}
 use Rattle.reading.specs.declared.number.NumberField.{NumberField}
 use Rattle.reading.specs.declared.vector.SignedField.{SignedField}
 use Rattle.reading.specs.declared.vector.VectorField.{VectorField}
-use Rattle.reading.specs.declared.rows.PairField.{PairField}
-use Rattle.reading.specs.declared.rows.RowsField.{RowsField}
-use Rattle.reading.specs.declared.head.TableField.{TableField}
-use Rattle.reading.specs.declared.head.HeadField.{HeadField}
+use Rattle.reading.specs.declared.tables.BitsField.{BitsField}
+use Rattle.reading.specs.declared.tables.TableField.{TableField}
+
+-- ---- the kind byte
+
+-- the code's kind of a family, and the number beside it
+abbrev pub asKind : Answered Family → Kind
+asKind (answered tables) = Kind′.Table
+asKind (answered gates) = Kind′.Gate
+asKind (answered witnesses) = Kind′.Witness
+asKind (answered jobs) = Kind′.Job
+asKind (refused n) = Kind′.Refused n
+
+-- the family of the code's kind
+abbrev pub familyOf : Kind → Answered Family
+familyOf Kind′.Table = answered tables
+familyOf Kind′.Gate = answered gates
+familyOf Kind′.Witness = answered witnesses
+familyOf Kind′.Job = answered jobs
+familyOf (Kind′.Refused n) = refused n
+
+-- the families that a caller takes
+abbrev pub takenBy : Takes → List Family
+takenBy Takes′.Every = everyFamily
+takenBy Takes′.Tables = tablesAlone
+
+abbrev pub kindField : Reading Family → KindField
+kindField (answered f) = record { kind = asKind (answered (f .value)); next = f .next }
+kindField (refused n) = record { kind = Kind′.Refused n; next = 0 }
+
+-- ---- the other fields
 
 abbrev pub numberField : Reading ℕ → NumberField
 numberField (answered f) = record { status = Status′.Done; value = f .value; next = f .next }
@@ -33,13 +64,9 @@ abbrev pub vectorField : Reading Vector → VectorField
 vectorField (answered f) = record { status = Status′.Done; v = f .value; next = f .next }
 vectorField (refused n) = record { status = Status′.Refused n; v = zeroVector; next = 0 }
 
-abbrev pub pairField : Reading Pair → PairField
-pairField (answered f) = record { status = Status′.Done; row = f .value .row; count = f .value .count; fits = f .value .fits; next = f .next }
-pairField (refused n) = record { status = Status′.Refused n; row = 0; count = 0; fits = false; next = 0 }
-
-abbrev pub rowsField : Reading RowList → RowsField
-rowsField (answered f) = record { status = Status′.Done; counts = f .value .counts; kept = f .value .kept; next = f .next }
-rowsField (refused n) = record { status = Status′.Refused n; counts = zeros; kept = false; next = 0 }
+abbrev pub bitsField : Reading (List ℕ) → BitsField
+bitsField (answered f) = record { status = Status′.Done; bits = f .value; next = f .next }
+bitsField (refused n) = record { status = Status′.Refused n; bits = replicate 32 0; next = 0 }
 
 abbrev pub noTable : Table
 noTable = record { n = 0; bytes = replicate 32 0 }
@@ -48,6 +75,6 @@ abbrev pub tableField : Reading Table → TableField
 tableField (answered f) = record { status = Status′.Done; table = f .value; next = f .next }
 tableField (refused n) = record { status = Status′.Refused n; table = noTable; next = 0 }
 
-abbrev pub headField : Reading Head → HeadField
-headField (answered f) = record { status = Status′.Done; kind = f .value .kind; table = f .value .table; next = f .next }
-headField (refused n) = record { status = Status′.Refused n; kind = 0; table = noTable; next = 0 }
+-- the table that follows a kind that was read; a refused one is passed on
+abbrev pub tableBy : Kind → List ℕ → ℕ → Reading Table
+tableBy kind s at = andThen (familyOf kind) (λ f. tableAt s at)

@@ -1,1 +1,2 @@
+-- what the structs of read fields stand for
 pub mod Fields

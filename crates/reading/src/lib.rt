@@ -1,6 +1,6 @@
 // Fields of records read from a slice at a position. Each function gives its field and the position after it, or the number of a
 // refusal.
-pub mod head;
+pub mod kind;
 pub mod number;
-pub mod rows;
+pub mod tables;
 pub mod vector;

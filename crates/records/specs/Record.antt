@@ -1,7 +1,7 @@
 -- A record: its bytes, and what bytes mean (document 01, "Records" and "Who causes which number"). Definitions only. Assumes nothing.
 use mathlib.Core.Bool.{Bool, true, false, not, _&&_}
 use mathlib.Core.List.{List, [], _∷_, _++_}
-use Prim.Native.Nat.{ℕ, zero, suc}
+use Prim.Native.Nat.{ℕ}
 use lib.Dec.{ltb}
 use lib.ListN.{length}
 use Rattle.types.specs.declared.table.Table.{Table}
@@ -18,7 +18,8 @@ use Rattle.codec.specs.Field.{Reading, field, onward}
 use Rattle.codec.specs.Number.{numberBytes, numberAt}
 use Rattle.codec.specs.VectorField.{vectorBytes, vectorAt}
 use Rattle.codec.specs.RowList.{RowList, rowListBytes, rowListAt}
-use Rattle.codec.specs.Head.{headBytes, headAt}
+use Rattle.codec.specs.Kind.{Family, tables, gates, witnesses, jobs, kindOf, everyFamily, kindAt}
+use Rattle.codec.specs.TableField.{tableBytes, tableAt}
 
 -- kinds 1 to 4: a table; a table with a gate; with a witness; an open job
 pub data Record : Type 0 where
@@ -26,6 +27,13 @@ pub data Record : Type 0 where
   ofGate : Table → Gate → Record
   ofWitness : Table → Witness → Record
   ofJob : Job → Record
+
+-- the family of a record
+abbrev pub family : Record → Family
+family (ofTable t) = tables
+family (ofGate t g) = gates
+family (ofWitness t w) = witnesses
+family (ofJob j) = jobs
 
 -- the weights and T of a gate as a vector, and back
 abbrev pub gateVector : Gate → Vector
@@ -38,33 +46,38 @@ vectorGate n v = record { n = n; weights = v .a; threshold = v .b }
 
 -- after the table, kind 4 has K, v, s, and a row list
 abbrev pub jobBytes : Job → List ℕ
-jobBytes j = numberBytes (j .k) ++ (vectorBytes (j .table .n) (j .v) ++ (vectorBytes (j .table .n) (j .s) ++ rowListBytes (j .counts)))
+jobBytes j = numberBytes (j .state .k) ++ (vectorBytes (j .table .n) (j .state .v) ++ (vectorBytes (j .table .n) (j .state .s) ++ rowListBytes (j .state .counts)))
+
+-- what follows the kind byte
+unfoldable pub bodyBytes : Record → List ℕ
+bodyBytes (ofTable t) = tableBytes t
+bodyBytes (ofGate t g) = tableBytes t ++ vectorBytes (t .n) (gateVector g)
+bodyBytes (ofWitness t w) = tableBytes t ++ rowListBytes (w .counts)
+bodyBytes (ofJob j) = tableBytes (j .table) ++ jobBytes j
 
 unfoldable pub recordBytes : Record → List ℕ
-recordBytes (ofTable t) = headBytes 1 t
-recordBytes (ofGate t g) = headBytes 2 t ++ vectorBytes (t .n) (gateVector g)
-recordBytes (ofWitness t w) = headBytes 3 t ++ rowListBytes (w .counts)
-recordBytes (ofJob j) = headBytes 4 (j .table) ++ jobBytes j
+unfolding bodyBytes
+recordBytes x = kindOf (family x) ∷ bodyBytes x
 
 -- ---- read
 
--- kind 2: each weight, then T: 1, 4, 7
+-- after the table of kind 2, each weight, then T: 1, 4, 7
 abbrev pub gateAt : Table → List ℕ → ℕ → Reading Record
 gateAt t s at = onward (vectorAt true (t .n) s at) (λ v next. answered (field (ofGate t (vectorGate (t .n) v)) next))
 
--- kind 3: a row list: each number 1, 4, 8
+-- after that of kind 3, a row list: each number 1, 4, 8
 abbrev pub witnessAt : Table → List ℕ → ℕ → Reading Record
 witnessAt t s at = onward (rowListAt true (rows t) s at) (λ list next. answered (field (ofWitness t (record { counts = list .counts })) next))
 
 -- the open job of the numbers of a kind 4 record. M is not stored: it is the highest power of two not above K
 abbrev pub openJob : Table → ℕ → Vector → Vector → List ℕ → Job
-openJob t k v s counts = record { table = t; k = k; v = v; mark = highest k; s = s; counts = counts; stage = Open }
+openJob t k v s counts = record { table = t; state = record { k = k; v = v; mark = highest k; s = s; counts = counts; stage = Open } }
 
 -- 9: the list broke a range, or the job is not sound
 abbrev pub unsoundJob : RowList → Job → Rule
 unsoundJob list j = rule 9 (not (list .kept && isSound j))
 
--- kind 4 after K, v and s: each number 1, 4; after the last 9
+-- of kind 4, after K, v and s: each number 1, 4; after the last 9
 abbrev pub countsAt : Table → ℕ → Vector → Vector → List ℕ → ℕ → Reading Record
 countsAt t k v w s at =
     onward (rowListAt false (rows t) s at) (λ list next.
@@ -75,13 +88,16 @@ abbrev pub jobAt : Table → List ℕ → ℕ → Reading Record
 jobAt t s at =
     onward (numberAt s at) (λ k p. onward (vectorAt false (t .n) s p) (λ v q. onward (vectorAt false (t .n) s q) (λ w r. countsAt t k v w s r)))
 
--- what follows the table, by the kind
-unfoldable pub bodyAt : ℕ → Table → List ℕ → ℕ → Reading Record
-bodyAt zero t s at = answered (field (ofTable t) at)
-bodyAt (suc zero) t s at = answered (field (ofTable t) at)
-bodyAt (suc (suc zero)) t s at = gateAt t s at
-bodyAt (suc (suc (suc zero))) t s at = witnessAt t s at
-bodyAt (suc (suc (suc (suc k)))) t s at = jobAt t s at
+-- what follows the table, by the family
+abbrev pub restAt : Family → Table → List ℕ → ℕ → Reading Record
+restAt tables t s at = answered (field (ofTable t) at)
+restAt gates t s at = gateAt t s at
+restAt witnesses t s at = witnessAt t s at
+restAt jobs t s at = jobAt t s at
+
+-- what follows the kind byte: the table, and the rest by the family
+unfoldable pub bodyAt : Family → List ℕ → ℕ → Reading Record
+bodyAt f s at = onward (tableAt s at) (λ t p. restAt f t s p)
 
 -- 6: bytes left after a single record
 abbrev pub bytesLeft : List ℕ → ℕ → Rule
@@ -89,7 +105,7 @@ bytesLeft s at = rule 6 (ltb at (length s))
 
 -- the single record from a position to the end
 unfoldable pub recordAt : List ℕ → ℕ → Answered Record
-recordAt s at = onward (headAt 4 s at) (λ head p. onward (bodyAt (head .kind) (head .table) s p) (λ x next. checked (bytesLeft s next ∷ []) (answered x)))
+recordAt s at = onward (kindAt everyFamily s at) (λ f p. onward (bodyAt f s p) (λ x next. checked (bytesLeft s next ∷ []) (answered x)))
 
 -- what bytes mean: one record, or one number
 abbrev pub readRecord : List ℕ → Answered Record

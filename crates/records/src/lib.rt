@@ -1,3 +1,2 @@
 // Records read from a slice: tables, gates, witnesses and open jobs.
 pub mod read;
-pub mod reader;

@@ -3,13 +3,17 @@ use cell::refusal::Status;
 use job::job::Job;
 use job::job::job_status;
 use machine::power::top_power;
-use reading::head::read_head;
+use machine::vector::vector_gate;
+use reading::kind::KindField;
 use reading::number::read_number;
-use reading::rows::read_rows;
+use reading::tables::read_table;
 use reading::vector::read_vector;
+use rowlists::read::read_rows;
 use table::table::row_count;
 use types::gate::Gate;
+use types::kind::Kind;
 use types::stage::Stage;
+use types::state::State;
 use types::table::Table;
 use types::vector::Vector;
 use types::witness::Witness;
@@ -21,17 +25,8 @@ ghost use Rattle.cell.specs.Refusal.{answered, refused, NoneBroken};
 ghost use Rattle.cell.specs.Calls.{tableRules};
 ghost use Rattle.job.specs.Sound.{isSound};
 ghost use Rattle.job.specs.Calls.{noGate, noWitness};
-ghost use Rattle.records.specs.Record.{ofGate, ofWitness, ofJob, vectorGate, gateAt, witnessAt, openJob, countsAt, jobAt, bodyAt, recordAt};
-ghost use Rattle.records.specs.Calls.{noJob, asRead, asBody};
-
-// Which kind of record was read, or the number of a refusal.
-pub enum Kind {
-    Table,
-    Gate,
-    Witness,
-    Job,
-    Refused(u8),
-}
+ghost use Rattle.records.specs.Record.{ofGate, ofWitness, ofJob, vectorGate, gateAt, witnessAt, openJob, countsAt, jobAt};
+ghost use Rattle.records.specs.Calls.{noJob, asRead, asBody, restBy, bodyBy, ended};
 
 // A record's kind and parts. What the kind does not have is all 0.
 pub struct Read {
@@ -42,10 +37,10 @@ pub struct Read {
     pub job: Job,
 }
 
-// A record up to what follows its table, and the position after it. The position is 0 beside a refusal.
-struct Body {
-    read: Read,
-    next: usize,
+// A record and the position after it. The position is 0 beside a refusal.
+pub struct Body {
+    pub read: Read,
+    pub next: usize,
 }
 
 // Returns a record that has no gate, no witness and no job.
@@ -69,12 +64,14 @@ fn bare(kind: Kind, table: Table) -> Read
                 n: 0,
                 bytes: [0u8; 32],
             },
-            k: 0,
-            v: zero,
-            mark: 0,
-            s: zero,
-            counts: [0u32; 256],
-            stage: Stage::Open,
+            state: State {
+                k: 0,
+                v: zero,
+                mark: 0,
+                s: zero,
+                counts: [0u32; 256],
+                stage: Stage::Open,
+            },
         },
     }
 }
@@ -100,18 +97,6 @@ fn no_body(number: u8) -> Body
     }
 }
 
-// Returns the gate of n inputs with the weights and T of a vector.
-fn gate_of(n: u8, v: Vector) -> Gate
-    ensures { λ r. ⌜ r ≡ vectorGate n v ⌝ }
-{
-    let weights = v.a;
-    Gate {
-        n,
-        weights,
-        threshold: v.b,
-    }
-}
-
 // Returns the record of a table with a gate.
 fn with_gate(table: Table, v: Vector) -> Read
     ensures { λ r. ⌜ r ≡ asRead (answered (ofGate table (vectorGate (table .n) v))) ⌝ }
@@ -119,7 +104,7 @@ fn with_gate(table: Table, v: Vector) -> Read
     let plain = bare(Kind::Gate, table);
     let witness = plain.witness;
     let job = plain.job;
-    let gate = gate_of(table.n, v);
+    let gate = vector_gate(table.n, v);
     Read {
         kind: Kind::Gate,
         table,
@@ -209,12 +194,14 @@ fn open_job(table: Table, k: u32, v: Vector, s: Vector, counts: [u32; 256]) -> J
 {
     Job {
         table,
-        k,
-        v,
-        mark: top_power(k),
-        s,
-        counts,
-        stage: Stage::Open,
+        state: State {
+            k,
+            v,
+            mark: top_power(k),
+            s,
+            counts,
+            stage: Stage::Open,
+        },
     }
 }
 
@@ -277,43 +264,50 @@ fn read_job(bytes: &[u8], at: usize, table: Table) -> Body
     read_counts(bytes, s.next, table, k.value, v.v, s.v)
 }
 
-// Reads what follows the table, by the kind.
-fn read_body(bytes: &[u8], at: usize, kind: u8, table: Table) -> Body
+// Reads what follows a table, by the kind. Refusals: the kind's; 1, 4, and 7, 8 or 9 by the kind.
+fn read_rest(bytes: &[u8], at: usize, kind: Kind, table: Table) -> Body
     requires { ⌜ NoneBroken (tableRules table []) ⌝ }
-    ensures { λ r. ⌜ r ≡ asBody (bodyAt kind table (now (bytes .entry)) at) ⌝ }
+    ensures { λ r. ⌜ r ≡ asBody (restBy kind table (now (bytes .entry)) at) ⌝ }
 {
-    if kind < 2 {
-        return Body {
+    match kind {
+        Kind::Table => Body {
             read: bare(Kind::Table, table),
             next: at,
-        };
+        },
+        Kind::Gate => read_gate(bytes, at, table),
+        Kind::Witness => read_witness(bytes, at, table),
+        Kind::Job => read_job(bytes, at, table),
+        Kind::Refused(number) => no_body(number),
     }
-    if kind == 2 {
-        return read_gate(bytes, at, table);
-    }
-    if kind == 3 {
-        return read_witness(bytes, at, table);
-    }
-    read_job(bytes, at, table)
 }
 
-// Reads the single record from a position to the end. Refusals: 1, 5, 4, 2, 3, as its fields stand; 7, 8 or 9 by its kind; 6.
-pub fn read_at(bytes: &[u8], at: usize) -> Read
-    ensures { λ r. ⌜ r ≡ asRead (recordAt (now (bytes .entry)) at) ⌝ }
+// Reads what follows a kind that was read, at a position. Refusals: the kind's; 1, 4, 2, 3 of the table; 7, 8 or 9 by the kind.
+pub fn body_at(bytes: &[u8], at: usize, field: KindField) -> Body
+    ensures { λ r. ⌜ r ≡ asBody (bodyBy (field .kind) (now (bytes .entry)) at) ⌝ }
 {
-    let head = read_head(bytes, at, 4);
-    let status = head.status;
-    if let Status::Refused(number) = status {
-        return refused(number);
+    let kind = field.kind;
+    if let Kind::Refused(number) = kind {
+        return no_body(number);
     }
-    let table = head.table;
-    let body = read_body(bytes, head.next, head.kind, table);
+    let read = read_table(bytes, at);
+    let status = read.status;
+    if let Status::Refused(number) = status {
+        return no_body(number);
+    }
+    let table = read.table;
+    read_rest(bytes, read.next, kind, table)
+}
+
+// Returns the record that was read, if a position is at the end. Refusals: the record's; 6.
+pub fn end_at(bytes: &[u8], at: usize, body: Body) -> Read
+    ensures { λ r. ⌜ r ≡ ended (body .read) (now (bytes .entry)) at ⌝ }
+{
     let read = body.read;
     let kind = read.kind;
-    if let Kind::Refused(number) = kind {
-        return refused(number);
+    if let Kind::Refused(_) = kind {
+        return read;
     }
-    if body.next < bytes.len() {
+    if at < bytes.len() {
         return refused(6);
     }
     read

@@ -1,8 +1,8 @@
 // A record written into a buffer, all of whose bytes were the same before.
 use crate::sample;
 use records::read::Read;
-use samples::parts::first_bytes;
-use samples::parts::least;
+use testing::parts::first_bytes;
+use testing::parts::least;
 use writers::write::Written;
 
 // The length of the buffer: more than the longest record takes.

@@ -4,13 +4,13 @@ use crate::buffer::ROOM;
 use crate::buffer::is_right;
 use crate::sample;
 use crate::spoiled;
+use papers::show;
+use papers::text::digit;
+use papers::text::word;
+use receiving::record::read;
 use records::read::Read;
-use records::reader::read;
-use samples::parts::first_bytes;
-use samples::tally;
-use vectors::show;
-use vectors::text::digit;
-use vectors::text::word;
+use testing::parts::first_bytes;
+use testing::tally;
 
 // Returns the digit in base sixteen of a value's last four bits.
 fn hex_digit(value: u8) -> u8 {

@@ -9,7 +9,7 @@ mod set;
 mod spoiled;
 mod strings;
 
-use vectors::line::line_end;
+use papers::line::line_end;
 
 // Runs each line of a list by the case that a letter names.
 fn run(lines: &[u8], letter: u8) {

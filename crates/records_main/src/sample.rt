@@ -1,21 +1,22 @@
-// A record as its kind and parts: from a line, written, and compared. The line is in the form that `samples::make` reads. Its letter
+// A record as its kind and parts: from a line, written, and compared. The line is in the form that `testing::make` reads. Its letter
 // says what of the job is the record: T the table, G the table with the gate whose weights and T are v, W the table with the witness
 // whose counts are the job's, else the job after one carry-on by the line's budget. In the place of the row stands the gate's n.
 use job::job::Job;
-use records::read::Kind;
+use papers::text::first;
+use papers::text::word;
 use records::read::Read;
-use samples::compare::is_gate_of;
-use samples::compare::same_job;
-use samples::compare::same_table;
-use samples::make;
 use table::witness::same_counts;
+use testing::compare::is_gate_of;
+use testing::compare::same_job;
+use testing::compare::same_table;
+use testing::make;
 use types::gate::Gate;
+use types::kind::Kind;
 use types::stage::Stage;
+use types::state::State;
 use types::table::Table;
 use types::vector::Vector;
 use types::witness::Witness;
-use vectors::text::first;
-use vectors::text::word;
 use writers::write::Written;
 use writers::write::save;
 use writers::write::write_gate;
@@ -42,12 +43,14 @@ pub fn bare(kind: Kind) -> Read {
         },
         job: Job {
             table,
-            k: 0,
-            v: zero,
-            mark: 0,
-            s: zero,
-            counts: [0u32; 256],
-            stage: Stage::Open,
+            state: State {
+                k: 0,
+                v: zero,
+                mark: 0,
+                s: zero,
+                counts: [0u32; 256],
+                stage: Stage::Open,
+            },
         },
     }
 }
@@ -81,11 +84,11 @@ pub fn of_line(line: &[u8]) -> Read {
         return with_table(Kind::Table, table);
     }
     if letter == b'G' {
-        return with_gate(table, (make::row(line) % 256) as u8, made.v);
+        return with_gate(table, (make::row(line) % 256) as u8, made.state.v);
     }
     if letter == b'W' {
         let mut record = with_table(Kind::Witness, table);
-        let counts = made.counts;
+        let counts = made.state.counts;
         let witness = Witness { counts };
         record.witness = witness;
         return record;

@@ -3,15 +3,14 @@ use crate::buffer;
 use crate::buffer::ROOM;
 use crate::buffer::is_right;
 use crate::sample;
-use records::read::Kind;
+use receiving::record::read;
 use records::read::Read;
-use records::read::read_at;
-use records::reader::read;
-use samples::parts::first_bytes;
-use samples::parts::least;
-use samples::parts::rest;
-use samples::tally;
-use samples::tally::Tally;
+use testing::parts::first_bytes;
+use testing::parts::least;
+use testing::parts::rest;
+use testing::tally;
+use testing::tally::Tally;
+use types::kind::Kind;
 ghost use Prim.Native.Nat.{_≤_, _<_};
 
 // Whether what reading some bytes gave is right: the record is written as the same bytes, or has no part beside a refusal.
@@ -54,13 +53,22 @@ pub fn cut(bytes: &[u8; 1300], length: usize) -> Tally {
     tally
 }
 
+// Reads from a position to the end; past the end there is nothing.
+fn read_from(bytes: &[u8], at: usize) -> Read {
+    if at < bytes.len() {
+        return read(&bytes[at..]);
+    }
+    let end = bytes.len();
+    read(&bytes[end..])
+}
+
 // Reads from each position up to two past the end.
 pub fn tails(bytes: &[u8]) -> Tally {
     let last = least(bytes.len(), ROOM) + 2;
     let mut tally = tally::none();
     let mut at: usize = 0;
     while at <= last {
-        tally = counted(tally, read_at(bytes, at), rest(bytes, at));
+        tally = counted(tally, read_from(bytes, at), rest(bytes, at));
         at = at + 1;
     }
     tally

@@ -1,7 +1,4 @@
-pub mod DecidedLaws
-pub mod TextLaws
-pub mod LineWriting
-pub mod HeightLaws
-pub mod PairTextLaws
+-- the line of a record fits into the room of a line
 pub mod RecordRoom
+-- the last line and that of a refusal fit; no line is empty
 pub mod RoomLaws

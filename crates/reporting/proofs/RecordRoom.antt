@@ -19,11 +19,13 @@ use Rattle.job.specs.declared.job.Job.{Job}
 use Rattle.job.specs.Calls.{gateOf}
 use Rattle.types.specs.declared.stage.Stage.{Stage}
 use Rattle.types.specs.declared.stage.Stage.the-variants.{Open, Found, Looped, Binate}
-use Rattle.reporting.specs.Text.{decimal, signedText}
-use Rattle.reporting.specs.Lines.{lineRoom, size, weightsText, gateText, height, pairText, pairsText, witnessText, openText, verdictText, recordLine}
-use Rattle.reporting.proofs.TextLaws.{decimal-most}
-use Rattle.reporting.proofs.HeightLaws.{height-most}
-use Rattle.reporting.proofs.PairTextLaws.{pairs-text-zero, pairs-text-suc}
+use Rattle.text.specs.Text.{decimal, signedText}
+use Rattle.reporting.specs.Lines.{lineRoom, openText, verdictText, recordLine}
+use Rattle.notation.specs.GateText.{size, weightsText, gateText}
+use Rattle.notation.specs.WitnessText.{height, pairText, pairsText, witnessText}
+use Rattle.text.proofs.DecimalLaws.{decimal-most}
+use Rattle.notation.proofs.HeightLaws.{height-most}
+use Rattle.notation.proofs.PairTextLaws.{pairs-text-zero, pairs-text-suc}
 
 -- a number of at most so many digits, with its sign
 signed-most : (d : ℕ) (z : ℤ) → up z + dn z < 10 ^ suc d → length (signedText z) ≤ suc (suc d)
@@ -49,37 +51,37 @@ weights-most a fits (suc m) place =
     rw length-append (omega (arith, signed-most 9 weight (omega (arith, fits-size (fits place))), weights-most a fits m (suc place)))
 
 -- the numbers of a job, in the ranges of the code's types
-pub record Held (j : Job) : Type 0 where
-  pub k : j .k < 2 ^ 32
-  pub count : (r : ℕ) → countOf (j .counts) r ≤ 4294967295
-  pub weights : length (j .v .a) ≡ 8
-  pub weight : (place : ℕ) → SFits w32 (getD (j .v .a) place (pos 0))
-  pub threshold : SFits w32 (j .v .b)
+pub record JobFits (j : Job) : Type 0 where
+  pub k : j .state .k < 2 ^ 32
+  pub count : (r : ℕ) → countOf (j .state .counts) r ≤ 4294967295
+  pub weights : length (j .state .v .a) ≡ 8
+  pub weight : (place : ℕ) → SFits w32 (getD (j .state .v .a) place (pos 0))
+  pub threshold : SFits w32 (j .state .v .b)
 
-module _ (j : Job) (held : Held j) where
+module _ (j : Job) (fits : JobFits j) where
   -- the size, K, and each kind of verdict
   size-most : up (size (gateOf j)) + dn (size (gateOf j)) ≤ 9 * 2 ^ 31
   unfolding size
   size-most =
-      let sum = weightedSum (j .v .a) (λ place. 1) in
-      let weighed = weighted-sum-size (j .v .a) (λ place. 1) 1 (2 ^ 31) (λ place h. omega arith) (λ place h. fits-size (held .weight place)) in
-      omega (arith, held .weights, weighed, fits-size (held .threshold), size-add sum (j .v .b))
+      let sum = weightedSum (j .state .v .a) (λ place. 1) in
+      let weighed = weighted-sum-size (j .state .v .a) (λ place. 1) 1 (2 ^ 31) (λ place h. omega arith) (λ place h. fits-size (fits .weight place)) in
+      omega (arith, fits .weights, weighed, fits-size (fits .threshold), size-add sum (j .state .v .b))
 
-  k-most : length (decimal (j .k)) ≤ 10
-  k-most = decimal-most 9 (j .k) (omega (arith, held .k))
+  k-most : length (decimal (j .state .k)) ≤ 10
+  k-most = decimal-most 9 (j .state .k) (omega (arith, fits .k))
 
-  gate-most : j .table .n ≤ 8 → length (gateText (j .k) (gateOf j)) ≤ 134
+  gate-most : j .table .n ≤ 8 → length (gateText (j .state .k) (gateOf j)) ≤ 134
   unfolding gateText size
   gate-most h =
       let total = signed-most 10 (size (gateOf j)) (omega (arith, size-most)) in
-      let threshold = signed-most 9 (j .v .b) (omega (arith, fits-size (held .threshold))) in
-      simp length-append (omega (arith, k-most, total, weights-most (j .v .a) (held .weight) (j .table .n) 0, threshold))
+      let threshold = signed-most 9 (j .state .v .b) (omega (arith, fits-size (fits .threshold))) in
+      simp length-append (omega (arith, k-most, total, weights-most (j .state .v .a) (fits .weight) (j .table .n) 0, threshold))
 
-  witness-most : j .table .n ≤ 8 → length (witnessText (j .k) (j .table) (j .counts)) ≤ 3867
+  witness-most : j .table .n ≤ 8 → length (witnessText (j .state .k) (j .table) (j .state .counts)) ≤ 3867
   unfolding witnessText
   witness-most h =
-      let tall = decimal-most 12 (height (j .table) (j .counts)) (omega (arith, height-most (j .table) (j .counts) (held .count) h)) in
-      simp length-append (omega (arith, k-most, tall, rows-le h, pairs-most (j .counts) (held .count) (rows (j .table)) 0 (omega (arith, rows-le h))))
+      let tall = decimal-most 12 (height (j .table) (j .state .counts)) (omega (arith, height-most (j .table) (j .state .counts) (fits .count) h)) in
+      simp length-append (omega (arith, k-most, tall, rows-le h, pairs-most (j .state .counts) (fits .count) (rows (j .table)) 0 (omega (arith, rows-le h))))
 
   verdict-most : j .table .n ≤ 8 → (x : Stage) → length (verdictText x j) ≤ 3867
   unfolding openText
@@ -92,4 +94,4 @@ module _ (j : Job) (held : Held j) where
   pub record-room : (position : ℕ) → position < 2 ^ 64 → j .table .n ≤ 8 → length (recordLine position j) ≤ lineRoom
   unfolding recordLine
   record-room position p h =
-      simp length-append (omega (arith, decimal-most 19 position (omega arith), decimal-most 0 (j .table .n) (omega arith), verdict-most h (j .stage)))
+      simp length-append (omega (arith, decimal-most 19 position (omega arith), decimal-most 0 (j .table .n) (omega arith), verdict-most h (j .state .stage)))

@@ -6,7 +6,7 @@ use lib.ListN.{length, length-append}
 use Rattle.reporting.specs.declared.tally.Tally.{Tally}
 use Rattle.job.specs.declared.job.Job.{Job}
 use Rattle.reporting.specs.Lines.{lineRoom, recordLine, refusalLine, meanTenths, meanText, lastLine}
-use Rattle.reporting.proofs.TextLaws.{decimal-twenty, decimal-some}
+use Rattle.text.proofs.DecimalLaws.{decimal-twenty, decimal-some}
 
 -- the line of a refusal
 pub refusal-room : (position number : ℕ) → length (refusalLine position number) ≤ lineRoom

@@ -1,3 +1,4 @@
-pub mod Text
+-- each line of a report
 pub mod Lines
+-- the whole report
 pub mod Report

@@ -3,17 +3,15 @@ use mathlib.Core.List.{List, _++_}
 use Prim.Native.Nat.{ℕ, zero, suc, _+_, _*_, _≤_}
 use lib.Dec.{ltb}
 use lib.ListN.{length}
-use Rattle.types.specs.declared.table.Table.{Table}
 use Rattle.cell.specs.Refusal.{answered, refused}
-use Rattle.job.specs.declared.job.Job.{Job}
 use Rattle.types.specs.declared.stage.Stage.{Stage}
 use Rattle.types.specs.declared.stage.Stage.the-variants.{Open, Found, Looped, Binate}
-use Rattle.job.specs.Machine.{run, fresh}
+use Rattle.job.specs.Machine.{decided}
 use Rattle.job.specs.Sound.{cap}
-use Rattle.job.specs.Calls.{callBudget}
 use Rattle.codec.specs.Field.{Reading}
 use Rattle.codec.specs.Number.{pickBytes}
-use Rattle.codec.specs.Head.{Head, headAt}
+use Rattle.types.specs.declared.table.Table.{Table}
+use Rattle.codec.specs.TableField.{tableRecordAt}
 use Rattle.reporting.specs.declared.tally.Tally.{Tally}
 use Rattle.reporting.specs.Lines.{recordLine, refusalLine, lastLine, tooLongLine}
 
@@ -24,10 +22,6 @@ inputMost = 65536
 -- the most that the K of its records add up to: each takes a byte at least, and its K is at most the cap
 abbrev pub sumMost : ℕ
 sumMost = cap * inputMost
-
--- each table gets one carry-on of 100,000
-unfoldable pub decided : Table → Job
-decided t = run callBudget (fresh t)
 
 -- ---- the numbers of the last line
 
@@ -51,16 +45,16 @@ pub record Within (t : Tally) : Type 0 where
 
 -- ---- the whole report
 
--- the line of the record at a position, and then the rest; a refusal prints its line and ends reading, and the last line still follows
-abbrev pub recordThen : (ℕ → Tally → List ℕ) → Tally → Reading Head → List ℕ
+-- the line of the record at a position, whose table gets one carry-on of 100,000, and then the rest; a refusal prints its line and ends reading, and the last line still follows
+abbrev pub recordThen : (ℕ → Tally → List ℕ) → Tally → Reading Table → List ℕ
 recordThen rest t (refused n) = refusalLine (t .records + 1) n ++ lastLine t
 recordThen rest t (answered f) =
-    recordLine (t .records + 1) (decided (f .value .table)) ++ rest (f .next) (counted (decided (f .value .table) .stage) (decided (f .value .table) .k) t)
+    recordLine (t .records + 1) (decided (f .value)) ++ rest (f .next) (counted (decided (f .value) .state .stage) (decided (f .value) .state .k) t)
 
 -- from a position on: kind 1 records one after another, at most so many
 unfoldable pub reportFrom : ℕ → List ℕ → ℕ → Tally → List ℕ
 reportFrom zero s at t = lastLine t
-reportFrom (suc left) s at t = let rest = recordThen (reportFrom left s) t (headAt 1 s at) in pickBytes (ltb at (length s)) rest (lastLine t)
+reportFrom (suc left) s at t = let rest = recordThen (reportFrom left s) t (tableRecordAt s at) in pickBytes (ltb at (length s)) rest (lastLine t)
 
 -- the report of an input; of one above 65,536 bytes the only line is "R 15"
 unfoldable pub report : List ℕ → List ℕ

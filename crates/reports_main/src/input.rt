@@ -1,10 +1,10 @@
 // One input, made from a line: a name, then parts, each of which is a number and the bytes, in base sixteen, that come so many times.
+use papers::show;
+use papers::text::digit;
+use papers::text::number;
+use papers::text::word;
 use printing::report::print_report;
-use samples::parts::first_bytes;
-use vectors::show;
-use vectors::text::digit;
-use vectors::text::number;
-use vectors::text::word;
+use testing::parts::first_bytes;
 
 // The length of the buffer: more than the longest input of the lists.
 const ROOM: usize = 65600;

@@ -3,7 +3,7 @@
 mod input;
 mod inputs;
 
-use vectors::line::line_end;
+use papers::line::line_end;
 
 // Runs each line.
 fn run(lines: &[u8]) {

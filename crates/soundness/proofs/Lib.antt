@@ -1,1 +1,2 @@
+-- tests one after the other
 pub mod TestLaws

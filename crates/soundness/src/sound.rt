@@ -1,12 +1,10 @@
 // The test that a state is sound on a table, whatever it holds.
-use machine::binate::binate_counts;
-use machine::binate::binate_place;
 use machine::power::top_power;
 use machine::scan::first_failing;
 use machine::scan::row_values;
 use machine::vector::same_vector;
 use machine::vector::vector_within;
-use table::inputs::Found;
+use table::inputs::Lowest;
 use table::inputs::is_row;
 use table::table::row_count;
 use table::witness::counts_within;
@@ -16,6 +14,8 @@ use types::stage::Stage;
 use types::state::State;
 use types::table::Table;
 use types::vector::Vector;
+use unateness::binate::binate_counts;
+use unateness::binate::binate_place;
 ghost use mathlib.Core.Path.{_≡_};
 ghost use mathlib.Core.Bool.{true, false, not, _&&_, _||_};
 ghost use Prim.Native.Nat.{_≤_, _<_};
@@ -67,9 +67,9 @@ fn has_looped(state: State) -> bool
 // Whether the table is binate, and the counts are those that show it.
 fn has_binate_counts(table: Table, state: State) -> bool
     requires { ⌜ table .n ≤ 8 ⌝ }
-    ensures { λ r. ⌜ r ≡ isBinateWith table (binatePlace (functionOf table)) state ⌝ }
+    ensures { λ r. ⌜ r ≡ isBinateWith (functionOf table) (binatePlace (functionOf table)) state ⌝ }
 {
-    let Found::Row(place) = binate_place(table) else {
+    let Lowest::Row(place) = binate_place(table) else {
         return false;
     };
     let counts = state.counts;
@@ -82,7 +82,7 @@ fn is_binate_start(table: Table, state: State) -> bool
     ensures { λ r. ⌜ r ≡ (eqb (state .k) 0
         && sameVector (state .v) zeroVector
         && sameVector (state .s) zeroVector
-        && isBinateWith table (binatePlace (functionOf table)) state) ⌝ }
+        && isBinateWith (functionOf table) (binatePlace (functionOf table)) state) ⌝ }
 {
     let zero = Vector { a: [0i32; 8], b: 0 };
     if state.k != 0 {
@@ -100,7 +100,7 @@ fn is_binate_start(table: Table, state: State) -> bool
 // Whether the state is traced, on a table that is not binate.
 fn is_unate_trace(table: Table, state: State) -> bool
     requires { ⌜ table .n ≤ 8 ⌝ }
-    ensures { λ r. ⌜ r ≡ (isTraced table state && not (isSome (binatePlace (functionOf table)))) ⌝ }
+    ensures { λ r. ⌜ r ≡ (isTraced (functionOf table) state && not (isSome (binatePlace (functionOf table)))) ⌝ }
 {
     let counts = state.counts;
     if !is_traced(table, counts, state.v, state.s, state.mark, state.k) {
@@ -124,7 +124,7 @@ fn mark_for(stage: Stage, k: u32) -> u32
 // Whether the state is in order for its stage.
 fn sound_in(table: Table, state: State) -> bool
     requires { ⌜ (table .n ≤ 8) × (state .k ≤ cap) × (inRange (state .k) (table .n) (state .v .a) (state .v .b) ≡ true) ⌝ }
-    ensures { λ r. ⌜ r ≡ soundIn table (state .stage) state ⌝ }
+    ensures { λ r. ⌜ r ≡ soundIn (functionOf table) (state .stage) state ⌝ }
 {
     let stage = state.stage;
     match stage {
@@ -161,7 +161,7 @@ fn keeps_limits(table: Table, state: State) -> bool
 // Whether the state is sound.
 pub fn is_sound(table: Table, state: State) -> bool
     requires { ⌜ table .n ≤ 8 ⌝ }
-    ensures { λ r. ⌜ r ≡ isSound table state ⌝ }
+    ensures { λ r. ⌜ r ≡ isSound (functionOf table) state ⌝ }
 {
     if !keeps_limits(table, state) {
         return false;

@@ -9,6 +9,7 @@ use native.Mathlib.Nat.{zero-add, suc-add}
 use native.Mathlib.Omega.{arith}
 use lib.Dec.{eqb}
 use Rattle.function.specs.Witness.{oneMore, zeros}
+use Rattle.numbers.proofs.TestLaws.{no-true}
 use Rattle.types.specs.declared.state.State.{State}
 use Rattle.types.specs.declared.stage.Stage.{Stage}
 use Rattle.types.specs.declared.stage.Stage.the-variants.{Open, Found, Looped, Binate}
@@ -16,7 +17,7 @@ use Rattle.function.specs.Function.{Function, levels}
 use Rattle.function.specs.Failing.{failing}
 use Rattle.function.specs.Vector.{correctedBy, sameVector, zeroVector}
 use Rattle.function.specs.Binate.{binatePlace, binateCounts}
-use Rattle.state.specs.Machine.{startState, startStage, freshBy, fresh, withStage, markIf, marked, settleBy, corrected, settled, closeIf, closed, stepBy, stepIn, step, run}
+use Rattle.state.specs.Machine.{startState, startStage, freshBy, fresh, withStage, markIf, marked, settleBy, corrected, settled, closeIf, closed, stepBy, stepIn, step, run, isEnded}
 use Rattle.machine.specs.Power.{highest}
 
 -- ---- step 4, and the ends
@@ -47,6 +48,16 @@ open-or-ended Open = yes refl
 open-or-ended Found = no found-ended
 open-or-ended Looped = no looped-ended
 open-or-ended Binate = no binate-ended
+
+-- the test of an end, both ways
+pub open-stage : (stage : Stage) → isEnded stage ≡ false → stage ≡ Open
+open-stage Open e = refl
+open-stage Found e = absurd (no-true (sym e))
+open-stage Looped e = absurd (no-true (sym e))
+open-stage Binate e = absurd (no-true (sym e))
+
+pub ended-stage : (stage : Stage) → isEnded stage ≡ true → stage ≢ Open
+ended-stage stage e is = no-true (sym (ap isEnded is) ∙ e)
 
 settle-keeps : (o : Option ℕ) (x : State) → (settleBy o x) .k ≡ x .k
 settle-keeps none x = refl

@@ -12,6 +12,7 @@ use lib.ListN.{getD, drop}
 use lib.Seq.{getD-drop}
 use lib.IntN.{ℤ}
 use borrow.Author.Tests.{lt-ltb}
+use Rattle.numbers.specs.Tests.{allAtMost}
 use Rattle.numbers.proofs.TestLaws.{all-at-most-at}
 use Rattle.function.specs.Function.{Function, rows}
 use Rattle.function.specs.Witness.{sideSum, countOf}
@@ -43,6 +44,14 @@ in-range-search k n ws th h e =
       places = λ place l. rw (lt-ltb place 8 l) (omega (arith, in-range-at g place l));
     }
 
+-- an array without counts from a row on has none from there on
+pub past-none : (rows : ℕ) (counts : List ℕ) → allAtMost 0 (drop rows counts) ≡ true → (r : ℕ) → rows ≤ r → countOf counts r ≡ 0
+past-none rows counts e r h =
+    let d = r - rows in
+    let there : rows + d ≡ r = omega arith in
+    let count = getD-drop rows counts d 0 ∙ ap (countOf counts) there in
+    omega (arith, all-at-most-at 0 (drop rows counts) e d)
+
 module _ {f : Function} {x : State} (s : Sound f x) where
   -- what a stage asks, of a state in that stage
   pub sound-in : (stage : Stage) → x .stage ≡ stage → SoundIn f stage x
@@ -67,12 +76,7 @@ module _ {f : Function} {x : State} (s : Sound f x) where
 
   -- what is past the rows has no count
   pub sound-past : (r : ℕ) → rows f ≤ r → getD (x .counts) r 0 ≡ 0
-  sound-past r h =
-      let d = r - rows f in
-      let there : rows f + d ≡ r = omega arith in
-      let past = drop (rows f) (x .counts) in
-      let count = getD-drop (rows f) (x .counts) d 0 ∙ ap (λ (q : ℕ). getD (x .counts) q 0) there in
-      omega (arith, all-at-most-at 0 past (s .past) d)
+  sound-past = past-none (rows f) (x .counts) (s .past)
 
   -- each count of a state that is not binate is at most K
   pub sound-count : x .stage ≢ Binate → (r : ℕ) → getD (x .counts) r 0 ≤ x .k

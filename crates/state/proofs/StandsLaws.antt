@@ -1,5 +1,5 @@
 -- A loop that searches ahead, beside the machine: its state is the machine's after so many steps but for step 5: its search is made, and the
--- stage that follows from it is not set yet. One turn of the loop is one step of the machine, and the ranges of the machine's state, which
+-- stage that follows from it is not set yet. One pass of the loop is one step of the machine, and the ranges of the machine's state, which
 -- is sound, are those of the loop's, since a stage changes none of them. Assumes nothing.
 use mathlib.Core.Path.{_≡_, refl, sym, _∙_, ap, subst}
 use mathlib.Core.Logic.{_≢_}
@@ -10,11 +10,11 @@ use native.Mathlib.Numerals.{add-one}
 use native.Mathlib.Omega.{arith}
 use lib.Dec.{eqb}
 use lib.ListN.{getD}
-use Rattle.table.proofs.InputLaws.{found-some, found-none}
-use Rattle.table.specs.declared.inputs.Found.the-variants.{Row, Nowhere}
+use Rattle.table.proofs.InputLaws.{lowest-some, lowest-none}
+use Rattle.table.specs.declared.inputs.Lowest.the-variants.{Row, Nowhere}
 use Rattle.table.specs.Table.{rows, value, functionOf}
 use Rattle.table.specs.Gate.{weightLimit, inRange}
-use Rattle.table.specs.Inputs.{found}
+use Rattle.table.specs.Inputs.{lowestOf}
 use Rattle.table.proofs.TableLaws.{table-fits}
 use Rattle.types.specs.declared.table.Table.{Table}
 use Rattle.types.specs.declared.vector.Vector.{Vector}
@@ -68,18 +68,18 @@ moved r v x = record {
 
 module _ {t : Table} {start : State} {m : ℕ} {x : State} (s : Stands t start m x) where
   -- where no row fails, the state is found, and stays so
-  pub stands-found : (budget : ℕ) → m ≤ budget → found (failing (functionOf t) (x .v)) ≡ Nowhere → withStage Stage′.Found x ≡ run (functionOf t) budget start
+  pub stands-found : (budget : ℕ) → m ≤ budget → lowestOf (failing (functionOf t) (x .v)) ≡ Nowhere → withStage Stage′.Found x ≡ run (functionOf t) budget start
   stands-found budget h f =
-      let passes = found-none (failing (functionOf t) (x .v)) f in
+      let passes = lowest-none (failing (functionOf t) (x .v)) f in
       run-stays (functionOf t) start (withStage Stage′.Found x) m budget h (sym (settled-found (functionOf t) x passes) ∙ s .machine) found-ended
 
-  module _ {r : ℕ} (f : found (failing (functionOf t) (x .v)) ≡ Row r) where
+  module _ {r : ℕ} (f : lowestOf (failing (functionOf t) (x .v)) ≡ Row r) where
     fails : failing (functionOf t) (x .v) ≡ some r
-    fails = found-some (failing (functionOf t) (x .v)) r f
+    fails = lowest-some (failing (functionOf t) (x .v)) r f
 
     -- a row that is found is a row of the table
     pub stands-row : r < rows t
-    stands-row = omega (arith, failing-some (functionOf t) (x .v) r (found-some (failing (functionOf t) (x .v)) r f) .inside)
+    stands-row = omega (arith, failing-some (functionOf t) (x .v) r (lowest-some (failing (functionOf t) (x .v)) r f) .inside)
 
     -- the state is then the machine's
     pub stands-open : x ≡ run (functionOf t) m start

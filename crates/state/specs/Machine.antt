@@ -1,5 +1,5 @@
 -- The stepping machine (document 01, "The stepping machine"): the perceptron rule with unit corrections, and Brent's search for a cycle.
--- Definitions only. Assumes nothing.
+-- Its steps: 1 and 2 `corrected`, by the row that `stepBy` takes; 3 `closed`; 4 `marked`; 5 `settled`. Definitions only. Assumes nothing.
 use mathlib.Core.Bool.{Bool, true, false}
 use mathlib.Core.List.{List}
 use mathlib.Core.Option.{Option, some, none}
@@ -95,6 +95,13 @@ module _ (f : Function) where
   unfoldable pub run : ℕ → State → State
   run zero x = x
   run (suc m) x = run m (step x)
+
+-- whether a stage is an end
+abbrev pub isEnded : Stage → Bool
+isEnded Open = false
+isEnded Found = true
+isEnded Looped = true
+isEnded Binate = true
 
 -- the most corrections that one call may ask for
 abbrev pub callBudget : ℕ

@@ -1,4 +1,4 @@
--- A sound job (document 01, "The stepping machine"): what it says of a function and a state, and the test of a table's state that code computes.
+-- A sound job (document 01, "The stepping machine"): what it says of a function and a state, and the test of it, which code computes on tables.
 -- `is-sound-correct` of proofs/ joins the two. Definitions only. Assumes nothing.
 use mathlib.Core.Path.{_≡_}
 use mathlib.Core.Bool.{Bool, true, false, not, _&&_, _||_}
@@ -8,17 +8,15 @@ use lib.Dec.{leb, eqb}
 use lib.ListN.{length, drop}
 use lib.IntN.{pos, _+ℤ_}
 use Rattle.numbers.specs.Tests.{allAtMost, allBelow, isSome, sameZ}
-use Rattle.types.specs.declared.table.Table.{Table}
 use Rattle.types.specs.declared.vector.Vector.{Vector}
 use Rattle.types.specs.declared.stage.Stage.{Stage}
 use Rattle.types.specs.declared.stage.Stage.the-variants.{Open, Found, Looped, Binate}
 use Rattle.types.specs.declared.state.State.{State}
 use Rattle.function.specs.Function.{Function, rows}
-use Rattle.function.specs.Witness.{sideSum, countOf}
+use Rattle.function.specs.Witness.{sideSum, countOf, countsCared}
 use Rattle.function.specs.Failing.{failing}
 use Rattle.function.specs.Vector.{sameVector, zeroVector, component}
 use Rattle.function.specs.Binate.{binatePlace, binateCounts}
-use Rattle.table.specs.Table.{functionOf}
 use Rattle.table.specs.Gate.{inRange}
 use Rattle.table.specs.Witness.{sameCounts}
 use Rattle.machine.specs.Power.{highest}
@@ -78,32 +76,33 @@ pub record Sound (f : Function) (x : State) : Type 0 where
 
 -- ---- the test, part by part
 
-unfoldable pub isTraced : Table → State → Bool
-isTraced t x =
-    eqb (sideSum (functionOf t) true (countOf (x .counts)) 0 + sideSum (functionOf t) false (countOf (x .counts)) 0 + x .mark) (x .k)
-    && allBelow (suc (t .n))
-    (λ i. sameZ (component (x .v) i +ℤ pos (sideSum (functionOf t) false (countOf (x .counts)) i)) (component (x .s) i +ℤ pos (sideSum (functionOf t) true (countOf (x .counts)) i)))
+unfoldable pub isTraced : Function → State → Bool
+isTraced f x =
+    eqb (sideSum f true (countOf (x .counts)) 0 + sideSum f false (countOf (x .counts)) 0 + x .mark) (x .k)
+    && allBelow (suc (f .places))
+    (λ i. sameZ (component (x .v) i +ℤ pos (sideSum f false (countOf (x .counts)) i)) (component (x .s) i +ℤ pos (sideSum f true (countOf (x .counts)) i)))
 
-abbrev pub isBinateWith : Table → Option ℕ → State → Bool
-isBinateWith t none x = false
-isBinateWith t (some place) x = sameCounts (x .counts) (binateCounts (functionOf t) place)
+abbrev pub isBinateWith : Function → Option ℕ → State → Bool
+isBinateWith f none x = false
+isBinateWith f (some place) x = sameCounts (x .counts) (binateCounts f place)
 
-unfoldable pub soundIn : Table → Stage → State → Bool
-soundIn t Open x =
-    isTraced t x && not (isSome (binatePlace (functionOf t))) && isSome (failing (functionOf t) (x .v)) && (not (sameVector (x .v) (x .s)) || allAtMost 0 (x .counts))
-soundIn t Found x = isTraced t x && not (isSome (binatePlace (functionOf t))) && not (isSome (failing (functionOf t) (x .v)))
-soundIn t Looped x = isTraced t x && not (isSome (binatePlace (functionOf t))) && leb 2 (x .k) && sameVector (x .v) (x .s)
-soundIn t Binate x = eqb (x .k) 0 && sameVector (x .v) zeroVector && sameVector (x .s) zeroVector && isBinateWith t (binatePlace (functionOf t)) x
+unfoldable pub soundIn : Function → Stage → State → Bool
+soundIn f Open x =
+    isTraced f x && not (isSome (binatePlace f)) && isSome (failing f (x .v)) && (not (sameVector (x .v) (x .s)) || allAtMost 0 (x .counts))
+soundIn f Found x = isTraced f x && not (isSome (binatePlace f)) && not (isSome (failing f (x .v)))
+soundIn f Looped x = isTraced f x && not (isSome (binatePlace f)) && leb 2 (x .k) && sameVector (x .v) (x .s)
+soundIn f Binate x = eqb (x .k) 0 && sameVector (x .v) zeroVector && sameVector (x .s) zeroVector && isBinateWith f (binatePlace f) x
 
 abbrev pub isShaped : State → Bool
 isShaped x = eqb (length (x .v .a)) 8 && eqb (length (x .s .a)) 8 && eqb (length (x .counts)) 256
 
-unfoldable pub isSound : Table → State → Bool
-isSound t x =
+unfoldable pub isSound : Function → State → Bool
+isSound f x =
     isShaped x
     && leb (x .k) cap
-    && inRange (x .k) (t .n) (x .v .a) (x .v .b)
-    && inRange (x .k) (t .n) (x .s .a) (x .s .b)
-    && allAtMost 0 (drop (rows (functionOf t)) (x .counts))
+    && inRange (f .top * x .k) (f .places) (x .v .a) (x .v .b)
+    && inRange (f .top * x .k) (f .places) (x .s .a) (x .s .b)
+    && countsCared f (countOf (x .counts))
+    && allAtMost 0 (drop (rows f) (x .counts))
     && eqb (x .mark) (markFor (x .stage) (x .k))
-    && soundIn t (x .stage) x
+    && soundIn f (x .stage) x

@@ -1,1 +1,2 @@
+-- the steps of a budget in parts
 pub mod LeftLaws

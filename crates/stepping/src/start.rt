@@ -1,11 +1,11 @@
 // The state that a table starts with.
-use machine::binate::binate_counts;
-use machine::binate::binate_place;
-use table::inputs::Found;
+use table::inputs::Lowest;
 use types::stage::Stage;
 use types::state::State;
 use types::table::Table;
 use types::vector::Vector;
+use unateness::binate::binate_counts;
+use unateness::binate::binate_place;
 ghost use mathlib.Core.Path.{_≡_};
 ghost use Prim.Native.Nat.{_≤_};
 ghost use Rattle.state.specs.Machine.{startState, fresh};
@@ -31,7 +31,7 @@ pub fn fresh_state(table: Table) -> State
     requires { ⌜ table .n ≤ 8 ⌝ }
     ensures { λ r. ⌜ r ≡ fresh (functionOf table) ⌝ }
 {
-    let Found::Row(place) = binate_place(table) else {
+    let Lowest::Row(place) = binate_place(table) else {
         return start_state([0u32; 256], Stage::Open);
     };
     start_state(binate_counts(table, place), Stage::Binate)

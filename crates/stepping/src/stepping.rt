@@ -10,26 +10,25 @@ use machine::scan::first_failing;
 use machine::scan::row_values;
 use machine::vector::corrected_by;
 use machine::vector::same_vector;
-use table::inputs::Found;
+use table::inputs::Lowest;
 use types::stage::Stage;
 use types::state::State;
 use types::table::Table;
 ghost use mathlib.Core.Path.{_≡_};
-ghost use mathlib.Core.Logic.{_≢_};
-ghost use mathlib.Core.Bool.{true, false};
+ghost use mathlib.Core.Bool.{true};
 ghost use Prim.Native.Nat.{_+_, _-_, _≤_, _<_};
 ghost use Rattle.numbers.specs.Tabulate.{Holds};
 ghost use Rattle.table.specs.Gate.{weightLimit, inRange};
 ghost use Rattle.lanes.specs.Sums.{magnitude};
-ghost use Rattle.lanes.specs.Codes.{stepAt};
+ghost use Rattle.correction.specs.Steps.{stepAt};
 ghost use Rattle.chunks.specs.Core.{stateOf};
-ghost use Rattle.state.specs.Machine.{withStage, run};
+ghost use Rattle.state.specs.Machine.{withStage, isEnded, run};
 ghost use Rattle.state.specs.Sound.{cap, Sound};
 ghost use Rattle.table.specs.Table.{functionOf};
 
 // Whether the stage is an end.
 pub fn is_ended(stage: Stage) -> bool
-    ensures { λ r. ⌜ (r ≡ true → stage ≢ Stage.Open) × (r ≡ false → stage ≡ Stage.Open) ⌝ }
+    ensures { λ r. ⌜ r ≡ isEnded stage ⌝ }
 {
     match stage {
         Stage::Open => false,
@@ -67,7 +66,7 @@ fn plain_steps(table: Table, state: State, budget: u32) -> State
     let mut next = first_failing(&mut distances, &values, table, j.v);
     let mut made: u32 = 0;
     while made < budget {
-        let Found::Row(row) = next else {
+        let Lowest::Row(row) = next else {
             return with_stage(j, Stage::Found);
         };
         let v = corrected_by(j.v, values[row], row);
@@ -85,7 +84,7 @@ fn plain_steps(table: Table, state: State, budget: u32) -> State
         next = first_failing(&mut distances, &values, table, j.v);
         made = made + 1;
     }
-    if let Found::Row(_) = next {
+    if let Lowest::Row(_) = next {
         j
     } else {
         with_stage(j, Stage::Found)
@@ -138,13 +137,13 @@ fn fast_steps(
     Way { core, left }
 }
 
-// Returns the state after so many steps, or at its end. `step` is the table of steps.
-pub fn steps(table: Table, state: State, budget: u32, step: &[i16; 2048]) -> State
-    requires { ⌜ (table .n ≤ 8) × Sound (functionOf table) state × (state .k + budget ≤ cap) × Holds stepAt 2048 (now step) ⌝ }
+// Returns the state after so many steps, or at its end. `steps` is the table of steps.
+pub fn run(table: Table, state: State, budget: u32, steps: &[i16; 2048]) -> State
+    requires { ⌜ (table .n ≤ 8) × Sound (functionOf table) state × (state .k + budget ≤ cap) × Holds stepAt 2048 (now steps) ⌝ }
     ensures { λ r. ⌜ r ≡ run (functionOf table) budget state ⌝ }
 {
     let mut counts = state.counts;
-    let way = fast_steps(table, core_of(state), &mut counts, budget, step);
+    let way = fast_steps(table, core_of(state), &mut counts, budget, steps);
     let next = state_of(way.core, counts);
     if way.left == 0 {
         return next;

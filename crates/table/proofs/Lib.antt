@@ -1,5 +1,10 @@
+-- rows, bytes and levels of a table, and its spare bits
 pub mod TableLaws
+-- what the definitions over a function say of a table's, in the words of document 01
 pub mod OnTables
-pub mod GateLaws
+-- the four counts of a binate input
+pub mod BinateRows
+-- the test that two arrays are the same, and its meaning
 pub mod WitnessLaws
+-- the rows in which an input of a table turns the value, and its kind
 pub mod InputLaws

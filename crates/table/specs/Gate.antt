@@ -1,5 +1,5 @@
--- A gate: the test that it realises a table, and the ranges of its numbers (document 01, "Table, gate, witness"). `Gate` is the record
--- that code holds. Definitions only. Assumes nothing.
+-- A gate: the ranges of its numbers (document 01, "Table, gate, witness"). `Gate` is the record that code holds. Definitions only. Assumes
+-- nothing.
 use mathlib.Core.Bool.{Bool, not, cond, _&&_}
 use mathlib.Core.List.{List}
 use Prim.Native.Nat.{ℕ}
@@ -7,17 +7,8 @@ use lib.Dec.{ltb}
 use lib.ListN.{getD}
 use lib.IntN.{ℤ, pos, negℤ}
 use lib.Signed.{leZ}
-use Rattle.numbers.specs.Tests.{sameBool, allBelow}
-use Rattle.types.specs.declared.table.Table.{Table}
+use Rattle.numbers.specs.Tests.{allBelow}
 use Rattle.types.specs.declared.gate.Gate.{Gate}
-use Rattle.table.specs.Table.{rows, value}
-use Rattle.function.specs.Function.{level}
-use Rattle.function.specs.Gate.{distance, gateTrue}
-
--- the test that a gate agrees with the table on every row
-unfoldable pub realises : Table → Gate → Bool
-unfolding allBelow distance
-realises t g = allBelow (rows t) (λ r. sameBool (gateTrue (g .weights) (g .threshold) (level 2 r)) (value t r))
 
 -- weights and T lie within ±1,000,000
 abbrev pub weightLimit : ℕ

@@ -11,17 +11,17 @@ use Rattle.types.specs.declared.table.Table.{Table}
 use Rattle.types.specs.declared.inputs.InputKind.{InputKind}
 use Rattle.types.specs.declared.inputs.InputKind.the-variants.{Idle, Rising, Falling, Binate}
 use Rattle.types.specs.declared.inputs.Place.{Place}
-use Rattle.table.specs.declared.inputs.Found.{Found}
-use Rattle.table.specs.declared.inputs.Found.the-variants.{Row, Nowhere}
+use Rattle.table.specs.declared.inputs.Lowest.{Lowest}
+use Rattle.table.specs.declared.inputs.Lowest.the-variants.{Row, Nowhere}
 use Rattle.table.specs.Table.{functionOf}
 use Rattle.function.specs.Turns.{firstTurn}
 
--- the enum that code answers a search with
-abbrev pub found : Option ℕ → Found
-found none = Nowhere
-found (some r) = Row r
+-- the enum that code answers a search for the lowest with
+abbrev pub lowestOf : Option ℕ → Lowest
+lowestOf none = Nowhere
+lowestOf (some r) = Row r
 
-abbrev pub isRow : Found → Bool
+abbrev pub isRow : Lowest → Bool
 isRow Nowhere = false
 isRow (Row r) = true
 
@@ -34,14 +34,14 @@ kindBy false true = Falling
 kindBy true true = Binate
 
 -- the kind at a place; past n it is idle
-unfoldable pub kindAt : Table → ℕ → InputKind
+unfoldable pub inputKindAt : Table → ℕ → InputKind
 unfolding firstTurn
-kindAt t place = kindBy (ltb place (t .n) && isSome (firstTurn (functionOf t) true place)) (ltb place (t .n) && isSome (firstTurn (functionOf t) false place))
+inputKindAt t place = kindBy (ltb place (t .n) && isSome (firstTurn (functionOf t) true place)) (ltb place (t .n) && isSome (firstTurn (functionOf t) false place))
 
 abbrev pub placeAt : Table → ℕ → Place
-placeAt t place = record { kind = kindAt t place }
+placeAt t place = record { kind = inputKindAt t place }
 
 -- the kinds of all eight places
 unfoldable pub kindsOf : Table → List Place
-unfolding tabulate kindAt
+unfolding tabulate inputKindAt
 kindsOf t = tabulate 8 (placeAt t)

@@ -1,5 +1,10 @@
+-- a table's rows, values, function and spare bits
 pub mod Table
+-- the ranges of a gate's numbers
 pub mod Gate
+-- the ranges of a witness's counts, and whether two arrays have the same
 pub mod Witness
+-- the kinds of inputs
 pub mod Inputs
+-- Chow's parameters
 pub mod Chow

@@ -1,22 +1,14 @@
--- A witness: the test that it balances, and the ranges of its counts (document 01, "Table, gate, witness"). `Witness` is the array that
--- code holds. Definitions only. Assumes nothing.
-use mathlib.Core.Bool.{Bool, true, false, not, _&&_, _||_}
+-- A witness: the ranges of its counts (document 01, "Table, gate, witness"). `Witness` is the array that code holds. Definitions only.
+-- Assumes nothing.
+use mathlib.Core.Bool.{Bool, not, _||_}
 use mathlib.Core.List.{List}
-use Prim.Native.Nat.{ℕ, suc}
-use lib.Dec.{ltb, eqb}
+use Prim.Native.Nat.{ℕ}
+use lib.Dec.{eqb}
 use lib.ListN.{getD, drop}
 use Rattle.numbers.specs.Tests.{allAtMost, allBelow}
 use Rattle.types.specs.declared.table.Table.{Table}
 use Rattle.types.specs.declared.witness.Witness.{Witness}
-use Rattle.table.specs.Table.{rows, functionOf}
-use Rattle.function.specs.Witness.{sideSum, countOf}
-
--- the test that a witness balances: the totals of input 0, and those of inputs 1 to n
-unfoldable pub balances : Table → Witness → Bool
-unfolding allBelow sideSum
-balances t w =
-    ltb 0 (sideSum (functionOf t) true (countOf (w .counts)) 0)
-    && allBelow (suc (t .n)) (λ i. eqb (sideSum (functionOf t) true (countOf (w .counts)) i) (sideSum (functionOf t) false (countOf (w .counts)) i))
+use Rattle.table.specs.Table.{rows}
 
 -- the test that two arrays have the same counts
 unfoldable pub sameCounts : List ℕ → List ℕ → Bool

@@ -7,8 +7,9 @@ ghost use mathlib.Core.Path.{_≡_};
 ghost use Prim.Native.Nat.{_≤_, _<_};
 ghost use lib.IntN.{pos};
 ghost use lib.ListN.{getD};
-ghost use Rattle.table.specs.Gate.{realises, within, placeLimit, inRange, beyond};
-ghost use Rattle.function.specs.Gate.{distance, gateTrue};
+ghost use Rattle.table.specs.Gate.{within, placeLimit, inRange, beyond};
+ghost use Rattle.table.specs.Table.{functionOf};
+ghost use Rattle.function.specs.Gate.{distance, gateTrue, realises};
 ghost use Rattle.function.specs.Function.{level};
 
 // Returns the sum of the weights of a row's true inputs, less T. The sum is of 64 bits, so that it cannot wrap.
@@ -39,7 +40,7 @@ pub fn gate_true(gate: Gate, row: usize) -> bool
 // Whether the gate agrees with the table on every row.
 pub fn gate_realises(table: Table, gate: Gate) -> bool
     requires { ⌜ table .n ≤ 8 ⌝ }
-    ensures { λ r. ⌜ r ≡ realises table gate ⌝ }
+    ensures { λ r. ⌜ r ≡ realises (gate .weights) (gate .threshold) (functionOf table) ⌝ }
 {
     let rows = row_count(table.n);
     let mut row: usize = 0;

@@ -6,12 +6,12 @@ use types::inputs::Place;
 use types::table::Table;
 ghost use mathlib.Core.Path.{_≡_};
 ghost use Prim.Native.Nat.{_≤_, _<_};
-ghost use Rattle.table.specs.Inputs.{found, isRow, kindBy, kindAt, kindsOf};
+ghost use Rattle.table.specs.Inputs.{lowestOf, isRow, kindBy, inputKindAt, kindsOf};
 ghost use Rattle.function.specs.Turns.{turnsAt, firstTurn};
 ghost use Rattle.table.specs.Table.{functionOf};
 
-// The row that a search found.
-pub enum Found {
+// The lowest that a search finds: a row, or the place of an input.
+pub enum Lowest {
     Row(usize),
     Nowhere,
 }
@@ -32,28 +32,28 @@ fn turns_at(table: Table, to: bool, place: usize, row: usize) -> bool
 }
 
 // Returns the lowest row in which the place's input turns the value to `to`.
-pub fn first_turn(table: Table, to: bool, place: usize) -> Found
+pub fn first_turn(table: Table, to: bool, place: usize) -> Lowest
     requires { ⌜ (table .n ≤ 8) × (place < 8) ⌝ }
-    ensures { λ r. ⌜ r ≡ found (firstTurn (functionOf table) to place) ⌝ }
+    ensures { λ r. ⌜ r ≡ lowestOf (firstTurn (functionOf table) to place) ⌝ }
 {
     let rows = row_count(table.n);
     let mut row: usize = 0;
     while row < rows {
         if turns_at(table, to, place, row) {
-            return Found::Row(row);
+            return Lowest::Row(row);
         }
         row = row + 1;
     }
-    Found::Nowhere
+    Lowest::Nowhere
 }
 
 // Whether a search found a row.
-pub fn is_row(answer: Found) -> bool
+pub fn is_row(answer: Lowest) -> bool
     ensures { λ r. ⌜ r ≡ isRow answer ⌝ }
 {
     match answer {
-        Found::Row(_) => true,
-        Found::Nowhere => false,
+        Lowest::Row(_) => true,
+        Lowest::Nowhere => false,
     }
 }
 
@@ -77,9 +77,9 @@ fn kind_by(rises: bool, falls: bool) -> InputKind
 }
 
 // Returns the kind of the input at a place.
-pub fn kind_at(table: Table, place: usize) -> InputKind
+pub fn input_kind_at(table: Table, place: usize) -> InputKind
     requires { ⌜ (table .n ≤ 8) × (place < 8) ⌝ }
-    ensures { λ r. ⌜ r ≡ kindAt table place ⌝ }
+    ensures { λ r. ⌜ r ≡ inputKindAt table place ⌝ }
 {
     if (table.n as usize) <= place {
         return InputKind::Idle;
@@ -100,7 +100,7 @@ pub fn all_kinds(table: Table) -> [Place; 8]
     let mut place: usize = 0;
     while place < 8 {
         places[place] = Place {
-            kind: kind_at(table, place),
+            kind: input_kind_at(table, place),
         };
         place = place + 1;
     }

@@ -1,6 +1,5 @@
 // Truth tables, gates, witnesses and inputs, row by row. The functions here ask for at most eight inputs: the calls that
 // take anything stand in the crates above.
-pub mod chow;
 pub mod gate;
 pub mod inputs;
 pub mod table;

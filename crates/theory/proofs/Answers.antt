@@ -16,8 +16,6 @@ use Rattle.numbers.specs.Tests.{allAtMost}
 use Rattle.numbers.proofs.Int.{integers, parts-add, parts-neg}
 use Rattle.numbers.proofs.TestLaws.{not-passed, or-neither, all-at-most-at, all-at-most-from}
 use Rattle.types.specs.declared.table.Table.{Table}
-use Rattle.table.proofs.GateLaws.{realises-correct}
-use Rattle.table.proofs.WitnessLaws.{balances-correct}
 use Rattle.cell.specs.Refusal.{Rule, answered, NoneBroken, none, also}
 use Rattle.cell.specs.Calls.{tableRules, checkGateRules, checkGate, checkWitnessRules, checkWitness}
 use Rattle.cell.proofs.RefusalLaws.{none-broken-answered}
@@ -33,17 +31,18 @@ use Rattle.machine.proofs.RangeLaws.{in-range-correct, in-range-wider}
 use Rattle.job.proofs.SoundLaws.{sound-in, sound-current, sound-count, sound-past}
 use Rattle.types.specs.declared.state.State.{State}
 use Rattle.table.specs.Table.{value, functionOf}
-use Rattle.table.specs.Gate.{realises, weightLimit, beyond}
-use Rattle.table.specs.Witness.{balances, countLimit, unfit}
+use Rattle.table.specs.Gate.{weightLimit, beyond}
+use Rattle.table.specs.Witness.{countLimit, unfit}
 use Rattle.table.proofs.TableLaws.{rows-le}
-use Rattle.table.proofs.InputLaws.{side-terms-le}
+use Rattle.sides.proofs.SideLaws.{side-terms-le}
 use Rattle.function.specs.Function.{Function, levels, rows}
-use Rattle.function.specs.Gate.{distance, Realises}
-use Rattle.function.specs.Witness.{sideSum, Balances, countOf}
+use Rattle.function.specs.Gate.{distance, Realises, realises}
+use Rattle.function.specs.Witness.{sideSum, Balances, balances, countOf}
 use Rattle.function.specs.Failing.{margin}
 use Rattle.function.specs.Vector.{component}
 use Rattle.function.specs.Binate.{binateCounts}
-use Rattle.function.proofs.WitnessLaws.{side-sum-terms, side-sum-term}
+use Rattle.function.proofs.GateLaws.{realises-correct}
+use Rattle.function.proofs.WitnessLaws.{side-sum-terms, side-sum-term, balances-correct}
 use Rattle.function.proofs.Summability.{no-gate}
 use Rattle.function.proofs.FailingLaws.{failing-none, passes-margin}
 use Rattle.function.proofs.BinateLaws.{binate-sums, binate-counts-balance}
@@ -92,7 +91,7 @@ module _ {f : Function} {x : State} (s : state.Sound f x) where
   -- a looped state's counts balance
   looped-balances : x .stage ≡ Looped → Balances f (countOf (x .counts))
   unfolding side
-  looped-balances e = record { total = equal e 0 (omega arith); above = above e; inputs = λ i l h. equal e i h; cared = s .cared }
+  looped-balances e = record { total = equal e 0 (omega arith); above = above e; inputs = λ i l h. equal e i h; cared = λ r h. s .cared r }
 
   -- a binate state's counts balance
   binate-balances : rows f ≤ 256 → x .stage ≡ Binate → Balances f (countOf (x .counts))
@@ -113,15 +112,15 @@ module _ {f : Function} {x : State} (s : state.Sound f x) where
 -- ---- of a job
 
 -- a found job's weights and threshold realise its table
-pub found-realises : (j : Job) → Sound j → j .stage ≡ Found → Realises (j .v .a) (j .v .b) (functionOf (j .table))
+pub found-realises : (j : Job) → Sound j → j .state .stage ≡ Found → Realises (j .state .v .a) (j .state .v .b) (functionOf (j .table))
 found-realises j s e = state-realises s e
 
 -- a job has ended without a gate
 abbrev pub EndedWithout : Job → Type 0
-EndedWithout j = WithoutGate (j .stage)
+EndedWithout j = WithoutGate (j .state .stage)
 
 -- its counts balance
-pub ended-balances : (j : Job) → j .table .n ≤ 8 → Sound j → EndedWithout j → Balances (functionOf (j .table)) (countOf (j .counts))
+pub ended-balances : (j : Job) → j .table .n ≤ 8 → Sound j → EndedWithout j → Balances (functionOf (j .table)) (countOf (j .state .counts))
 ended-balances j n s = state-balances s (rows-le n)
 
 -- so no integer weights and threshold, of any size, realise its table
@@ -137,24 +136,24 @@ table-kept t others (also many (also spare none)) kept = also many (also spare k
 -- a sound job's gate keeps the range of 7
 gate-in-range : (j : Job) → Sound j → beyond (gateOf j) ≡ false
 gate-in-range j s =
-    ap not (in-range-correct weightLimit (j .table .n) (j .v .a) (j .v .b) .1 (in-range-wider weightLimit (omega (arith, s .capped)) (sound-current s)))
+    ap not (in-range-correct weightLimit (j .table .n) (j .state .v .a) (j .state .v .b) .1 (in-range-wider weightLimit (omega (arith, s .capped)) (sound-current s)))
 
 -- a found job's gate is accepted
-pub found-accepted : (j : Job) → Sound j → NoneBroken (tableRules (j .table) []) → j .stage ≡ Found → checkGate (j .table) (gateOf j) ≡ answered true
+pub found-accepted : (j : Job) → Sound j → NoneBroken (tableRules (j .table) []) → j .state .stage ≡ Found → checkGate (j .table) (gateOf j) ≡ answered true
 found-accepted j s kept e =
-    none-broken-answered (checkGateRules (j .table) (gateOf j)) (answered (realises (j .table) (gateOf j)))
+    none-broken-answered (checkGateRules (j .table) (gateOf j)) (answered (realises (j .state .v .a) (j .state .v .b) (functionOf (j .table))))
     (also (ap not (eq-eqb (j .table .n) (j .table .n) refl)) (table-kept (j .table) _ kept (also (gate-in-range j s) none)))
-    ∙ ap answered (realises-correct (j .table) (gateOf j) .1 (found-realises j s e))
+    ∙ ap answered (realises-correct (j .state .v .a) (j .state .v .b) (functionOf (j .table)) .1 (found-realises j s e))
 
 -- the counts of a job that has ended without a gate are within the limit
-count-in-range : (j : Job) → j .table .n ≤ 8 → Sound j → EndedWithout j → (r : ℕ) → countOf (j .counts) r ≤ countLimit
+count-in-range : (j : Job) → j .table .n ≤ 8 → Sound j → EndedWithout j → (r : ℕ) → countOf (j .state .counts) r ≤ countLimit
 count-in-range j n s (inl e) r = omega (arith, s .capped, sound-count j s (λ b. apart (sym e ∙ b)) r)
   where
     apart : Looped ≢ Binate
     apart b = let z : _≡_ {A = ℕ} 0 1 = cc in omega arith
 count-in-range j n s (inr e) r = by (decLe (rows (functionOf (j .table))) r)
   where
-    by : Dec (rows (functionOf (j .table)) ≤ r) → countOf (j .counts) r ≤ countLimit
+    by : Dec (rows (functionOf (j .table)) ≤ r) → countOf (j .state .counts) r ≤ countLimit
     by (yes h) = omega (arith, sound-past j s r h)
     by (no h) =
         let (place, is, counts) = sound-in Binate j s e .3 in
@@ -172,14 +171,14 @@ balances-some t counts b = not-passed (allAtMost 0 counts) (λ e.
 witness-in-range : (j : Job) → j .table .n ≤ 8 → Sound j → EndedWithout j → unfit (j .table) (witnessOf j) ≡ false
 unfolding unfit
 witness-in-range j n s e =
-    or-neither (or-neither (balances-some (j .table) (j .counts) (ended-balances j n s e))
-    (ap not (all-at-most-from countLimit (j .counts) (λ r h. count-in-range j n s e r))))
+    or-neither (or-neither (balances-some (j .table) (j .state .counts) (ended-balances j n s e))
+    (ap not (all-at-most-from countLimit (j .state .counts) (λ r h. count-in-range j n s e r))))
     (ap not (s .past))
 
 -- the witness of a job that has ended without a gate is accepted
 pub ended-accepted : (j : Job) → Sound j → NoneBroken (tableRules (j .table) []) → EndedWithout j → checkWitness (j .table) (witnessOf j) ≡ answered true
 ended-accepted j s kept e =
     let n = kept-inputs (j .table) kept in
-    none-broken-answered (checkWitnessRules (j .table) (witnessOf j)) (answered (balances (j .table) (witnessOf j)))
+    none-broken-answered (checkWitnessRules (j .table) (witnessOf j)) (answered (balances (functionOf (j .table)) (countOf (j .state .counts))))
     (table-kept (j .table) _ kept (also (witness-in-range j n s e) none))
-    ∙ ap answered (balances-correct (j .table) (witnessOf j) .1 (ended-balances j n s e))
+    ∙ ap answered (balances-correct (functionOf (j .table)) (countOf (j .state .counts)) .1 (ended-balances j n s e))

@@ -126,12 +126,12 @@ pub table-squares : (t : Table) → suc (levelSquares (functionOf t)) ≡ t .n +
 table-squares t = omega arith
 
 -- the squares of a1..an and b are at most (n + 1)·K
-pub squares-le : (t : Table) (m : ℕ) → squares ((run m (fresh t)) .v) ≤ (t .n + 1) * (run m (fresh t)) .k
+pub squares-le : (t : Table) (m : ℕ) → squares ((run m (fresh t)) .state .v) ≤ (t .n + 1) * (run m (fresh t)) .state .k
 unfolding run fresh
 squares-le t m = rw (table-squares t) at (squares-bound (functionOf t) m)
 
 -- K is at most (n + 1) × (4 × the sum of the squared weights + (2T − 1) squared), for every n weights and T that realise the table
 pub bound-on-k : (t : Table) (m : ℕ) (ws : List ℤ) (th : ℤ) → t .n ≤ 8 → length ws ≡ t .n → Realises ws th (functionOf t)
-    → (run m (fresh t)) .k ≤ (t .n + 1) * factor ws th
+    → (run m (fresh t)) .state .k ≤ (t .n + 1) * factor ws th
 unfolding run fresh
 bound-on-k t m ws th h e g = rw (table-squares t) at (corrections-bound (functionOf t) m ws th (omega arith) g)

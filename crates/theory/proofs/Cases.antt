@@ -4,7 +4,8 @@ use lib.Count.{leadingZeros}
 use Rattle.table.specs.Table.{bitAt, spareSet}
 use Rattle.table.specs.Gate.{inRange}
 use Rattle.function.specs.Gate.{distance}
-use Rattle.table.specs.Witness.{balances, unfit}
+use Rattle.function.specs.Witness.{countsCared, balances}
+use Rattle.table.specs.Witness.{unfit}
 use Rattle.function.specs.Turns.{firstTurn}
 use Rattle.table.specs.Chow.{chowOf}
 use Rattle.function.specs.Failing.{fails, failing}
@@ -19,7 +20,7 @@ use Rattle.theory.specs.Cases.{MarkedCases}
 
 -- m1 to m10 hold
 pub marked-cases : MarkedCases
-unfolding leadingZeros bitAt spareSet distance inRange balances unfit firstTurn chowOf fails failing addLevels correctedBy corrected sameList sameVector highest marked settled closed stepIn state.step state.run run binateAt binatePlace binateCounts state.fresh fresh isTraced soundIn isSound
+unfolding leadingZeros bitAt spareSet distance inRange balances unfit firstTurn chowOf fails failing addLevels correctedBy corrected sameList sameVector highest marked settled closed stepIn state.step state.run run binateAt binatePlace binateCounts state.fresh fresh isTraced soundIn countsCared isSound
 marked-cases = record {
   m1 = record { stage = refl; corrections = refl; vector = refl };
   m2 = record { stage = refl; corrections = refl; vector = refl };

@@ -63,6 +63,6 @@ module _ (t : Table) (small : t .n ≤ 8) (ws : List ℤ) (th : ℤ) (g : Realis
   never-without = state-never-without (functionOf t) (table-fits t small) ws th g
 
   -- from n + 1 times the factor on, the job is found
-  pub found-from : length ws ≡ t .n → (m : ℕ) → (t .n + 1) * factor ws th ≤ m → m ≤ cap → (run m (fresh t)) .stage ≡ Found
+  pub found-from : length ws ≡ t .n → (m : ℕ) → (t .n + 1) * factor ws th ≤ m → m ≤ cap → (run m (fresh t)) .state .stage ≡ Found
   unfolding run fresh
   found-from e m h l = state-found-from (functionOf t) (table-fits t small) ws th g (omega arith) m (rw (table-squares t) h) l

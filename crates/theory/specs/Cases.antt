@@ -44,15 +44,15 @@ onceEach (r ∷ rs) = oneMore r (onceEach rs)
 
 -- the machine finds a gate after k corrections, and v, by the machine's test of two vectors, is the weights of the n inputs and T
 pub record Finds (t : Table) (k : ℕ) (ws : List ℤ) (th : ℤ) : Type 0 where
-  pub stage : (run 100 (fresh t)) .stage ≡ Found
-  pub corrections : (run 100 (fresh t)) .k ≡ k
-  pub vector : sameVector ((run 100 (fresh t)) .v) (record { a = places ws; b = th }) ≡ true
+  pub stage : (run 100 (fresh t)) .state .stage ≡ Found
+  pub corrections : (run 100 (fresh t)) .state .k ≡ k
+  pub vector : sameVector ((run 100 (fresh t)) .state .v) (record { a = places ws; b = th }) ≡ true
 
 -- a sound open job that has made k corrections takes the budget, and refuses one more with the number
 pub record TakesAtMost (j : Job) (k budget number : ℕ) : Type 0 where
   pub sound : isSound j ≡ true
-  pub stage : j .stage ≡ Open
-  pub corrections : j .k ≡ k
+  pub stage : j .state .stage ≡ Open
+  pub corrections : j .state .k ≡ k
   pub taken : carryOn j budget ≡ answered (run budget j)
   pub above : carryOn j (budget + 1) ≡ refused number
 
@@ -60,12 +60,14 @@ pub record TakesAtMost (j : Job) (k budget number : ℕ) : Type 0 where
 abbrev pub lateJob : Job
 lateJob = record {
   table = table 2 (0x08 ∷ []);
-  k = 950000;
-  v = zeroVector;
-  mark = 524288;
-  s = record { a = zeroVector .a; b = negℤ (pos 425712) };
-  counts = set zeros 0 425712;
-  stage = Open;
+  state = record {
+    k = 950000;
+    v = zeroVector;
+    mark = 524288;
+    s = record { a = zeroVector .a; b = negℤ (pos 425712) };
+    counts = set zeros 0 425712;
+    stage = Open;
+  };
 }
 
 -- the gate of source document 003

@@ -1,5 +1,2 @@
-pub mod ResultLaws
+-- what was read of bytes, and what a call comes to on it
 pub mod TakenLaws
-pub mod OutcomeLaws
-pub mod DecidedLaws
-pub mod ByteLaws

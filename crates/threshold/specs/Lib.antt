@@ -1,3 +1,2 @@
-pub mod Result
-pub mod Inputs
+-- what each call of the C interface comes to
 pub mod Interface

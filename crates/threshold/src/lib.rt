@@ -2,8 +2,5 @@
 // number of the refusal, or of 100 for a kind that the call does not take; a lent buffer is changed in the bytes of the answer
 // alone, and a lent number by an accepted call alone.
 mod certificate;
-mod inputs;
 mod jobs;
-mod outcome;
-mod result;
 mod tables;

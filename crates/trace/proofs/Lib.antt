@@ -1,1 +1,2 @@
+-- the sizes of what the test of a trace adds and compares
 pub mod SizeLaws

@@ -2,8 +2,7 @@
 -- Assumes nothing.
 use mathlib.Core.Path.{_≡_, refl, sym, _∙_, ap}
 use mathlib.Core.Bool.{Bool, true, false}
-use mathlib.Core.List.{List}
-use Prim.Native.Nat.{ℕ, zero, suc, _+_, _^_, _≤_, _<_}
+use Prim.Native.Nat.{ℕ, zero, suc, _+_, _^_, _≤_}
 use native.Mathlib.Omega.{arith}
 use lib.Dec.{eqb}
 use lib.ListN.{getD}
@@ -15,27 +14,9 @@ use borrow.Author.Tests.{eqb-true, eqb-false}
 use Rattle.numbers.specs.Tests.{sameZ}
 use Rattle.numbers.proofs.Int.{up, dn, parts-neg}
 use Rattle.numbers.proofs.Widths.{fits-size}
-use Rattle.numbers.proofs.TestLaws.{not-passed}
-use Rattle.types.specs.declared.table.Table.{Table}
-use Rattle.table.specs.Table.{rows, functionOf}
-use Rattle.function.specs.Witness.{sideSum, countOf}
-use Rattle.table.proofs.TableLaws.{rows-le}
-use Rattle.table.proofs.InputLaws.{side-terms-le}
-use Rattle.function.proofs.WitnessLaws.{side-sum-terms}
+use Rattle.numbers.proofs.TestLaws.{not-passed, same-z-correct}
 use Rattle.types.specs.declared.vector.Vector.{Vector}
 use Rattle.function.specs.Vector.{component}
-use Rattle.function.proofs.VectorLaws.{same-z-correct}
-
--- the sum of a side of counts below 2^32, of which there are at most 256, is below 2^40
-pub side-sum-lt : (t : Table) (side : Bool) (counts : List ℕ) (i : ℕ) → t .n ≤ 8 → ((r : ℕ) → countOf counts r ≤ 4294967295)
-    → sideSum (functionOf t) side (countOf counts) i < 2 ^ 40
-side-sum-lt t side counts i h small =
-    omega (
-      arith,
-      rows-le h,
-      side-sum-terms (functionOf t) side (countOf counts) i,
-      side-terms-le t side (countOf counts) i 4294967295 small (rows t),
-    )
 
 -- a component of a vector of 32 bits is at most 2^31 in size
 pub component-size : (v : Vector) (i : ℕ) → SFits w32 (v .b) → ((place : ℕ) → SFits w32 (getD (v .a) place (pos 0)))

@@ -17,7 +17,7 @@ use Rattle.table.specs.Table.{functionOf}
 -- ---- whether a row fails in a job: 2, 3, 9, 14
 
 abbrev pub rowFails : Job → ℕ → Answered Bool
-rowFails j r = checked (jobRules j (pastRows (j .table .n) r ∷ [])) (answered (fails (functionOf (j .table)) (j .v) r))
+rowFails j r = checked (jobRules j (pastRows (j .table .n) r ∷ [])) (answered (fails (functionOf (j .table)) (j .state .v) r))
 
 -- ---- what a job shows: 2, 3, 9
 
@@ -29,7 +29,7 @@ shownIn Looped j = record { verdict = Verdict′.Witness; gate = noGate; witness
 shownIn Binate j = record { verdict = Verdict′.Witness; gate = noGate; witness = witnessOf j }
 
 abbrev pub showJob : Job → Answered Shown
-showJob j = checked (jobRules j []) (answered (shownIn (j .stage) j))
+showJob j = checked (jobRules j []) (answered (shownIn (j .state .stage) j))
 
 -- beside a refusal there is neither
 abbrev pub shown : Answered Shown → Shown

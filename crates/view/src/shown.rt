@@ -4,6 +4,8 @@ use cell::refusal::Status;
 use cell::refusal::as_answer;
 use job::job::Job;
 use job::job::job_status;
+use machine::scan::fails_by;
+use machine::vector::vector_gate;
 use table::gate::row_distance;
 use table::table::row_count;
 use table::table::row_value;
@@ -41,12 +43,7 @@ fn fails_at(table: Table, v: Vector, row: usize) -> bool
     ensures { λ r. ⌜ r ≡ fails (functionOf table) v row ⌝ }
 {
     let a = v.a;
-    let distance = row_distance(a, v.b, row);
-    if row_value(table, row) {
-        distance < 1
-    } else {
-        -1 < distance
-    }
+    fails_by(row_value(table, row), row_distance(a, v.b, row))
 }
 
 // Says whether a row fails in the job. Refusals: 2, 3, 9, 14.
@@ -61,7 +58,7 @@ pub fn row_fails(job: Job, row: usize) -> Answer
     if row_count(table.n) <= row {
         return Answer::Refused(14);
     }
-    as_answer(fails_at(table, job.v, row))
+    as_answer(fails_at(table, job.state.v, row))
 }
 
 // Returns what is shown with neither gate nor witness.
@@ -85,15 +82,11 @@ fn shown_bare(verdict: Verdict) -> Shown
 fn shown_gate(job: Job) -> Shown
     ensures { λ r. ⌜ r ≡ shownIn Stage.Found job ⌝ }
 {
-    let v = job.v;
-    let weights = v.a;
+    let v = job.state.v;
+    let gate = vector_gate(job.table.n, v);
     Shown {
         verdict: Verdict::Gate,
-        gate: Gate {
-            n: job.table.n,
-            weights,
-            threshold: v.b,
-        },
+        gate,
         witness: Witness {
             counts: [0u32; 256],
         },
@@ -104,7 +97,7 @@ fn shown_gate(job: Job) -> Shown
 fn shown_witness(job: Job) -> Shown
     ensures { λ r. ⌜ r ≡ shownIn Stage.Looped job ⌝ }
 {
-    let counts = job.counts;
+    let counts = job.state.counts;
     Shown {
         verdict: Verdict::Witness,
         gate: Gate {
@@ -124,7 +117,8 @@ pub fn show(job: Job) -> Shown
     if let Status::Refused(number) = status {
         return shown_bare(Verdict::Refused(number));
     }
-    let stage = job.stage;
+    let state = job.state;
+    let stage = state.stage;
     match stage {
         Stage::Open => shown_bare(Verdict::Open),
         Stage::Found => shown_gate(job),

@@ -5,18 +5,17 @@ use mathlib.Core.List.{List, [], _∷_, _++_}
 use Prim.Native.Nat.{ℕ, _+_, _≤_}
 use native.Mathlib.Omega.{arith}
 use lib.ListN.{length, length-append}
-use borrow.Author.Tests.{le-ltb, not-false, eqb-true}
+use borrow.Author.Tests.{le-ltb}
 use Rattle.numbers.proofs.TestLaws.{no-true}
 use Rattle.types.specs.declared.table.Table.{Table}
 use Rattle.types.specs.declared.gate.Gate.{Gate}
-use Rattle.types.specs.declared.witness.Witness.{Witness}
 use Rattle.table.specs.Table.{rows}
 use Rattle.table.specs.Gate.{weightLimit, inRange}
 use Rattle.table.proofs.TableLaws.{rows-le}
-use Rattle.cell.specs.Refusal.{Rule, rule, answered, checked, NoneBroken, also}
-use Rattle.cell.specs.Calls.{tableRules, otherInputs, gateRange, witnessRange}
+use Rattle.cell.specs.Refusal.{Rule, rule, Answered, answered, checked, NoneBroken, also}
+use Rattle.cell.specs.Calls.{tableRules}
 use Rattle.cell.proofs.RefusalLaws.{answered-none-broken}
-use Rattle.cell.proofs.TableChecked.{kept-inputs, table-kept, others-kept}
+use Rattle.cell.proofs.TableChecked.{kept-inputs, table-kept}
 use Rattle.types.specs.declared.vector.Vector.{Vector}
 use Rattle.job.specs.declared.job.Job.{Job}
 use Rattle.types.specs.declared.stage.Stage.{Stage}
@@ -29,47 +28,41 @@ use Rattle.codec.specs.Field.{field, Reading, onward}
 use Rattle.codec.specs.Number.{numberBytes}
 use Rattle.codec.specs.VectorField.{vectorBytes, vectorAt}
 use Rattle.codec.specs.RowList.{RowList, rowListBytes}
-use Rattle.codec.specs.Head.{Head, headBytes}
-use Rattle.codec.proofs.StandsLaws.{Stands, stands-front, stands-back, stands-self}
+use Rattle.codec.specs.Kind.{Family, kindOf, everyFamily}
+use Rattle.codec.specs.TableField.{tableBytes}
+use Rattle.codec.proofs.StandsLaws.{Stands, stands-front, stands-back, stands-head, stands-self}
 use Rattle.codec.proofs.NumberLaws.{number-read}
 use Rattle.codec.proofs.VectorFieldLaws.{vector-read}
 use Rattle.codec.proofs.RowListRead.{rows-read}
-use Rattle.codec.proofs.HeadLaws.{head-read}
-use Rattle.records.specs.Record.{Record, ofTable, ofGate, ofWitness, ofJob, gateVector, vectorGate, jobBytes, recordBytes, openJob, unsoundJob, countsAt, jobAt, bodyAt, bytesLeft, recordAt, readRecord}
+use Rattle.codec.proofs.KindLaws.{every-taken, kind-read}
+use Rattle.codec.proofs.TableFieldLaws.{table-read}
+use Rattle.records.specs.Record.{Record, ofTable, ofGate, ofWitness, ofJob, family, gateVector, vectorGate, jobBytes, recordBytes, openJob, unsoundJob, countsAt, jobAt, bodyAt, bytesLeft, recordAt, readRecord}
 use Rattle.writers.specs.Calls.{hasEnded, tooShort, recordRules, writeRecord}
-use Rattle.writers.proofs.RecordParts.{Held, kindOf, tableIn, bodyBytes, head-and-body, Fit, fit, open-stage, savable}
+use Rattle.job.proofs.MachineLaws.{open-stage}
+use Rattle.writers.proofs.RecordParts.{Held, tableIn, restBytes, record-parts, restAt, body-is, same-inputs, gate-in-limits, witness-fits, savable}
 
 -- ---- read after write
 
--- the rules that a body's reader goes by are among the writer's
-same-inputs : (t : Table) (g : Gate) {others : List Rule} → NoneBroken (otherInputs t g ∷ others) → (g .n ≡ t .n) × NoneBroken others
-same-inputs t g (also b rest) = (eqb-true (g .n) (t .n) (not-false _ b), rest)
-
-in-limits : (g : Gate) {others : List Rule} → NoneBroken (gateRange g ∷ others) → inRange weightLimit (g .n) (g .weights) (g .threshold) ≡ true
-in-limits g (also b rest) = not-false _ b
-
-fits : (t : Table) (w : Witness) {others : List Rule} → NoneBroken (witnessRange t w ∷ others) → Fit t w
-fits t w (also b rest) = fit t w b
-
-is-open : (j : Job) {others : List Rule} → NoneBroken (hasEnded j ∷ others) → j .stage ≡ Open
-is-open j (also b rest) = open-stage (j .stage) b
+-- a job that has not ended is open
+is-open : (j : Job) {others : List Rule} → NoneBroken (hasEnded j ∷ others) → j .state .stage ≡ Open
+is-open j (also b rest) = open-stage (j .state .stage) b
 
 -- a gate comes back from its vector, and a sound open job from its numbers
 gate-back : (n : ℕ) (g : Gate) → g .n ≡ n → vectorGate n (gateVector g) ≡ g
 gate-back n g e = subst (λ (m : ℕ). vectorGate m (gateVector g) ≡ g) e refl
 
-job-back : (j : Job) → Sound j → j .stage ≡ Open → openJob (j .table) (j .k) (j .v) (j .s) (j .counts) ≡ j
+job-back : (j : Job) → Sound j → j .state .stage ≡ Open → openJob (j .table) (j .state .k) (j .state .v) (j .state .s) (j .state .counts) ≡ j
 job-back j sound e =
-    let mark : highest (j .k) ≡ j .mark = sym (sound .mark ∙ ap (λ (x : Stage). markFor x (j .k)) e) in
-    λ x. record { table = j .table; k = j .k; v = j .v; mark = mark x; s = j .s; counts = j .counts; stage = sym e x }
+    let mark : highest (j .state .k) ≡ j .state .mark = sym (sound .mark ∙ ap (λ (x : Stage). markFor x (j .state .k)) e) in
+    λ x. record { table = j .table; state = record { k = j .state .k; v = j .state .v; mark = mark x; s = j .state .s; counts = j .state .counts; stage = sym e x } }
 
 -- what follows s in a job's record, and the whole job's part, read where they stand
-module _ (j : Job) (few : j .table .n ≤ 8) (sound : Sound j) (opened : j .stage ≡ Open) (s : List ℕ) where
-  counts-read : (at : ℕ) → Stands s at (rowListBytes (j .counts)) → countsAt (j .table) (j .k) (j .v) (j .s) s at ≡ answered (field (ofJob j) (at + length (rowListBytes (j .counts))))
+module _ (j : Job) (few : j .table .n ≤ 8) (sound : Sound j) (opened : j .state .stage ≡ Open) (s : List ℕ) where
+  counts-read : (at : ℕ) → Stands s at (rowListBytes (j .state .counts)) → countsAt (j .table) (j .state .k) (j .state .v) (j .state .s) s at ≡ answered (field (ofJob j) (at + length (rowListBytes (j .state .counts))))
   counts-read at stands =
-      let next = at + length (rowListBytes (j .counts)) in
-      ap (λ (r : Reading RowList). onward r (λ list q. checked (unsoundJob list (openJob (j .table) (j .k) (j .v) (j .s) (list .counts)) ∷ []) (answered (field (ofJob (openJob (j .table) (j .k) (j .v) (j .s) (list .counts))) q))))
-      (rows-read false (rows (j .table)) (j .counts) s at (rows-le few) (sound .shaped .counts) (savable j sound opened .limit) (sound .past) (λ e. absurd (no-true e)) stands)
+      let next = at + length (rowListBytes (j .state .counts)) in
+      ap (λ (r : Reading RowList). onward r (λ list q. checked (unsoundJob list (openJob (j .table) (j .state .k) (j .state .v) (j .state .s) (list .counts)) ∷ []) (answered (field (ofJob (openJob (j .table) (j .state .k) (j .state .v) (j .state .s) (list .counts))) q))))
+      (rows-read false (rows (j .table)) (j .state .counts) s at (rows-le few) (sound .shaped .counts) (savable j sound opened .limit) (sound .past) (λ e. absurd (no-true e)) stands)
       ∙ ap (λ (i : Job). checked (rule 9 (not (isSound i)) ∷ []) (answered (field (ofJob i) next))) (job-back j sound opened)
       ∙ ap (λ (b : Bool). checked (rule 9 (not b) ∷ []) (answered (field (ofJob j) next))) (is-sound-correct j .1 sound)
 
@@ -77,40 +70,40 @@ module _ (j : Job) (few : j .table .n ≤ 8) (sound : Sound j) (opened : j .stag
   job-read at stands =
       let n = j .table .n in
       let keeps = savable j sound opened in
-      let number = numberBytes (j .k) in
-      let current = vectorBytes n (j .v) in
-      let copied = vectorBytes n (j .s) in
-      let counts = rowListBytes (j .counts) in
+      let number = numberBytes (j .state .k) in
+      let current = vectorBytes n (j .state .v) in
+      let copied = vectorBytes n (j .state .s) in
+      let counts = rowListBytes (j .state .counts) in
       let after-number = stands-back s at number (current ++ (copied ++ counts)) stands in
       let after-current = stands-back s (at + length number) current (copied ++ counts) after-number in
       let after-copied = stands-back s (at + length number + length current) copied counts after-current in
-      let first = number-read s at (j .k) (keeps .few) (stands-front s at number (current ++ (copied ++ counts)) stands) in
-      let second = vector-read false n (j .v) s (at + length number) few (sound .shaped .weights) (keeps .current) (stands-front s (at + length number) current (copied ++ counts) after-number) in
-      let third = vector-read false n (j .s) s (at + length number + length current) few (sound .shaped .copied) (keeps .copied) (stands-front s (at + length number + length current) copied counts after-current) in
+      let first = number-read s at (j .state .k) (keeps .few) (stands-front s at number (current ++ (copied ++ counts)) stands) in
+      let second = vector-read false n (j .state .v) s (at + length number) few (sound .shaped .weights) (keeps .current) (stands-front s (at + length number) current (copied ++ counts) after-number) in
+      let third = vector-read false n (j .state .s) s (at + length number + length current) few (sound .shaped .copied) (keeps .copied) (stands-front s (at + length number + length current) copied counts after-current) in
       let total : length (jobBytes j) ≡ length number + (length current + (length copied + length counts)) =
       length-append number (current ++ (copied ++ counts)) ∙ ap (λ (m : ℕ). length number + m) (length-append current (copied ++ counts) ∙ ap (λ (m : ℕ). length current + m) (length-append copied counts)) in
       ap (λ (r : Reading ℕ). onward r (λ k p. onward (vectorAt false n s p) (λ v q. onward (vectorAt false n s q) (λ w e. countsAt (j .table) k v w s e)))) first
-      ∙ ap (λ (r : Reading Vector). onward r (λ v q. onward (vectorAt false n s q) (λ w e. countsAt (j .table) (j .k) v w s e))) second
-      ∙ ap (λ (r : Reading Vector). onward r (λ w e. countsAt (j .table) (j .k) (j .v) w s e)) third
+      ∙ ap (λ (r : Reading Vector). onward r (λ v q. onward (vectorAt false n s q) (λ w e. countsAt (j .table) (j .state .k) v w s e))) second
+      ∙ ap (λ (r : Reading Vector). onward r (λ w e. countsAt (j .table) (j .state .k) (j .state .v) w s e)) third
       ∙ counts-read (at + length number + length current + length copied) after-copied
       ∙ ap (λ (next : ℕ). answered (field (ofJob j) next)) (omega (arith, total))
 
--- the body of each kind, read where it stands
-body-read : (x : Record) (others : List Rule) → Held x → NoneBroken (recordRules x others) → (s : List ℕ) (at : ℕ) → Stands s at (bodyBytes x)
-    → bodyAt (kindOf x) (tableIn x) s at ≡ answered (field x (at + length (bodyBytes x)))
-unfolding bodyAt kindOf tableIn bodyBytes
-body-read (ofTable t) others held kept s at stands = ap (λ (next : ℕ). answered (field (ofTable t) next)) (omega arith)
-body-read (ofGate t g) others (long, eight) kept s at stands =
+-- what follows the table, read where it stands
+rest-read : (x : Record) (others : List Rule) → Held x → NoneBroken (recordRules x others) → (s : List ℕ) (at : ℕ) → Stands s at (restBytes x)
+    → restAt (family x) (tableIn x) s at ≡ answered (field x (at + length (restBytes x)))
+unfolding restAt tableIn restBytes
+rest-read (ofTable t) others held kept s at stands = ap (λ (next : ℕ). answered (field (ofTable t) next)) (omega arith)
+rest-read (ofGate t g) others (long, eight) kept s at stands =
     let same = same-inputs t g kept in
     let range : inRange weightLimit (t .n) (g .weights) (g .threshold) ≡ true =
-    subst (λ (n : ℕ). inRange weightLimit n (g .weights) (g .threshold) ≡ true) (same .0) (in-limits g (others-kept t (same .1))) in
+    subst (λ (n : ℕ). inRange weightLimit n (g .weights) (g .threshold) ≡ true) (same .0) (gate-in-limits t g kept) in
     ap (λ (r : Reading Vector). onward r (λ v next. answered (field (ofGate t (vectorGate (t .n) v)) next))) (vector-read true (t .n) (gateVector g) s at (kept-inputs t (same .1)) eight range stands)
     ∙ ap (λ (h : Gate). answered (field (ofGate t h) (at + length (vectorBytes (t .n) (gateVector g))))) (gate-back (t .n) g (same .0))
-body-read (ofWitness t w) others (long, full) kept s at stands =
-    let fit = fits t w (others-kept t kept) in
+rest-read (ofWitness t w) others (long, full) kept s at stands =
+    let fit = witness-fits t w kept in
     ap (λ (r : Reading RowList). onward r (λ list next. answered (field (ofWitness t (record { counts = list .counts })) next)))
     (rows-read true (rows t) (w .counts) s at (rows-le (kept-inputs t kept)) full (fit .limit) (fit .past) (λ e. fit .some) stands)
-body-read (ofJob j) others held kept s at stands = job-read j (kept-inputs (j .table) kept) (kept-sound j kept) (is-open j (job-others-kept j kept)) s at stands
+rest-read (ofJob j) others held kept s at stands = job-read j (kept-inputs (j .table) kept) (kept-sound j kept) (is-open j (job-others-kept j kept)) s at stands
 
 table-taken : (x : Record) (others : List Rule) → NoneBroken (recordRules x others) → NoneBroken (tableRules (tableIn x) [])
 unfolding tableIn
@@ -126,32 +119,29 @@ table-held (ofGate t g) held = held .0
 table-held (ofWitness t w) held = held .0
 table-held (ofJob j) held = held
 
-kind-low : (x : Record) → 1 ≤ kindOf x
-unfolding kindOf
-kind-low (ofTable t) = omega arith
-kind-low (ofGate t g) = omega arith
-kind-low (ofWitness t w) = omega arith
-kind-low (ofJob j) = omega arith
-
-kind-high : (x : Record) → kindOf x ≤ 4
-unfolding kindOf
-kind-high (ofTable t) = omega arith
-kind-high (ofGate t g) = omega arith
-kind-high (ofWitness t w) = omega arith
-kind-high (ofJob j) = omega arith
-
 -- a record's bytes, alone, are read as the record
 record-read : (x : Record) (others : List Rule) → Held x → NoneBroken (recordRules x others) → readRecord (recordBytes x) ≡ answered x
 unfolding recordAt
 record-read x others held kept =
     let s = recordBytes x in
-    let head = headBytes (kindOf x) (tableIn x) in
-    let stands : Stands s 0 (head ++ bodyBytes x) = subst (Stands s 0) (head-and-body x) (stands-self s) in
-    let whole : length s ≡ length head + length (bodyBytes x) = ap length (head-and-body x) ∙ length-append head (bodyBytes x) in
-    ap (λ (r : Reading Head). onward r (λ h p. onward (bodyAt (h .kind) (h .table) s p) (λ y next. checked (bytesLeft s next ∷ []) (answered y))))
-    (head-read 4 (kindOf x) (tableIn x) s 0 (kind-low x) (kind-high x) (table-taken x others kept) (table-held x held) (stands-front s 0 head (bodyBytes x) stands))
-    ∙ ap (λ (r : Reading Record). onward r (λ y next. checked (bytesLeft s next ∷ []) (answered y))) (body-read x others held kept s (0 + length head) (stands-back s 0 head (bodyBytes x) stands))
-    ∙ ap (λ (b : Bool). checked (rule 6 b ∷ []) (answered x)) (le-ltb (0 + length head + length (bodyBytes x)) (length s) (omega arith))
+    let f = family x in
+    let t = tableIn x in
+    let kind = kindOf f ∷ [] in
+    let table = tableBytes t in
+    let rest = restBytes x in
+    let stands : Stands s 0 (kind ++ (table ++ rest)) = subst (Stands s 0) (record-parts x) (stands-self s) in
+    let back = stands-back s 0 kind (table ++ rest) stands in
+    let inside = stands-head s 0 (kindOf f) (table ++ rest) stands in
+    let first = kind-read everyFamily f s 0 (table ++ rest) (every-taken f) stands in
+    let second = table-read t s (0 + 1) (table-taken x others kept) (table-held x held) (omega (arith, inside .0)) (stands-front s (0 + 1) table rest back) in
+    let third = rest-read x others held kept s (0 + 1 + length table) (stands-back s (0 + 1) table rest back) in
+    let whole : length s ≡ 1 + (length table + length rest) = omega (arith, ap length (record-parts x), length-append table rest) in
+    ap (λ (r : Reading Family). onward r (λ g p. onward (bodyAt g s p) (ended s))) first
+    ∙ ap (λ (r : Reading Record). onward r (ended s)) (body-is f s (0 + 1) ∙ ap (λ (r : Reading Table). onward r (λ u p. restAt f u s p)) second ∙ third)
+    ∙ ap (λ (b : Bool). checked (rule 6 b ∷ []) (answered x)) (le-ltb (0 + 1 + length table + length rest) (length s) (omega arith))
+  where
+    ended : List ℕ → Record → ℕ → Answered Record
+    ended s y next = checked (bytesLeft s next ∷ []) (answered y)
 
 -- reading what was written gives the same record
 pub read-back : (x : Record) → Held x → (room : ℕ) (bytes : List ℕ) → writeRecord x room ≡ answered bytes → readRecord bytes ≡ answered x

@@ -2,7 +2,7 @@
 use mathlib.Core.Path.{_≡_, refl, sym, _∙_, ap, ap₂, subst}
 use mathlib.Core.Bool.{true, false, not, _&&_}
 use mathlib.Core.List.{List, [], _∷_, _++_}
-use Prim.Native.Nat.{ℕ, zero, suc, _+_, _≤_}
+use Prim.Native.Nat.{ℕ, _+_, _≤_}
 use native.Mathlib.Omega.{arith}
 use lib.Dec.{ltb}
 use lib.ListN.{length, drop}
@@ -24,58 +24,61 @@ use Rattle.codec.specs.Field.{Field, field}
 use Rattle.codec.specs.Number.{numberBytes, numberAt}
 use Rattle.codec.specs.VectorField.{vectorBytes, vectorAt}
 use Rattle.codec.specs.RowList.{RowList, rowListBytes, rowListAt}
-use Rattle.codec.specs.Head.{Head, headBytes, headAt}
+use Rattle.codec.specs.Kind.{Family, tables, gates, witnesses, jobs, kindOf, everyFamily, kindAt}
+use Rattle.codec.specs.TableField.{tableBytes, tableAt}
 use Rattle.codec.proofs.FieldLaws.{onward-answered, checked-answered}
 use Rattle.codec.proofs.StandsLaws.{Stands, stands-nil, both-stand, stands-whole, AllBytes}
 use Rattle.codec.proofs.NumberLaws.{number-written}
 use Rattle.codec.proofs.VectorFieldLaws.{vector-written}
 use Rattle.codec.proofs.RowListWritten.{rows-written, strict-kept}
-use Rattle.codec.proofs.HeadLaws.{HeadRead, head-written}
-use Rattle.records.specs.Record.{Record, ofTable, ofGate, ofWitness, ofJob, vectorGate, recordBytes, gateAt, witnessAt, openJob, unsoundJob, jobAt, bodyAt, recordAt, readRecord}
+use Rattle.codec.proofs.KindLaws.{KindRead, kind-written}
+use Rattle.codec.proofs.TableFieldLaws.{TableRead, table-written}
+use Rattle.records.specs.Record.{Record, ofTable, ofGate, ofWitness, ofJob, family, vectorGate, recordBytes, gateAt, witnessAt, openJob, unsoundJob, jobAt, bodyAt, recordAt, readRecord}
 use Rattle.writers.specs.Calls.{tooShort, recordRules, writeRecord}
-use Rattle.writers.proofs.RecordParts.{kindOf, tableIn, bodyBytes, head-and-body, fit-from}
+use Rattle.writers.proofs.RecordParts.{tableIn, restBytes, record-parts, restAt, body-is, fit-from}
 
 -- ---- write after read
 
--- what reading a body says: the record's kind and table are the head's, its bytes stand there, and it keeps a writer's rules
-record BodyRead (kind : ℕ) (t : Table) (s : List ℕ) (at : ℕ) (b : Field Record) : Type 0 where
-  same-kind : kindOf (b .value) ≡ kind
+-- what reading what follows a table says: the record's family and table are those read before it, its bytes stand there, and it keeps a
+-- writer's rules
+record RestRead (f : Family) (t : Table) (s : List ℕ) (at : ℕ) (b : Field Record) : Type 0 where
+  same-family : family (b .value) ≡ f
   same-table : tableIn (b .value) ≡ t
-  stands : Stands s at (bodyBytes (b .value))
-  next : b .next ≡ at + length (bodyBytes (b .value))
+  stands : Stands s at (restBytes (b .value))
+  next : b .next ≡ at + length (restBytes (b .value))
   rules : (others : List Rule) → NoneBroken others → NoneBroken (recordRules (b .value) others)
 
 module _ (t : Table) (s : List ℕ) (bytes : AllBytes s) (taken : NoneBroken (tableRules t [])) where
-  table-body : (at : ℕ) (b : Field Record) → answered (field (ofTable t) at) ≡ answered b → BodyRead 1 t s at b
-  unfolding kindOf tableIn bodyBytes
+  table-body : (at : ℕ) (b : Field Record) → answered (field (ofTable t) at) ≡ answered b → RestRead tables t s at b
+  unfolding tableIn restBytes
   table-body at b e =
       let same : field (ofTable t) at ≡ b = cc in
-      subst (BodyRead 1 t s at) same (record { same-kind = refl; same-table = refl; stands = stands-nil s at; next = omega arith; rules = λ others kept. all-kept t taken kept })
+      subst (RestRead tables t s at) same (record { same-family = refl; same-table = refl; stands = stands-nil s at; next = omega arith; rules = λ others kept. all-kept t taken kept })
 
-  gate-body : (at : ℕ) (b : Field Record) → gateAt t s at ≡ answered b → BodyRead 2 t s at b
-  unfolding kindOf tableIn bodyBytes
+  gate-body : (at : ℕ) (b : Field Record) → gateAt t s at ≡ answered b → RestRead gates t s at b
+  unfolding tableIn restBytes
   gate-body at b e =
       let parts = onward-answered (vectorAt true (t .n) s at) _ b e in
       let f = parts .0 in
       let read = vector-written true (t .n) s at f (kept-inputs t taken) bytes (parts .1) in
       let same : field (ofGate t (vectorGate (t .n) (f .value))) (f .next) ≡ b = cc in
-      subst (BodyRead 2 t s at) same (record {
-        same-kind = refl;
+      subst (RestRead gates t s at) same (record {
+        same-family = refl;
         same-table = refl;
         stands = read .stands;
         next = read .next;
         rules = λ others kept. also (ap not (eq-eqb (t .n) (t .n) refl)) (all-kept t taken (also (ap not (read .ranged refl)) kept));
       })
 
-  witness-body : (at : ℕ) (b : Field Record) → witnessAt t s at ≡ answered b → BodyRead 3 t s at b
-  unfolding kindOf tableIn bodyBytes unfit
+  witness-body : (at : ℕ) (b : Field Record) → witnessAt t s at ≡ answered b → RestRead witnesses t s at b
+  unfolding tableIn restBytes unfit
   witness-body at b e =
       let parts = onward-answered (rowListAt true (rows t) s at) _ b e in
       let f = parts .0 in
       let read = rows-written true (rows t) s at f (rows-le (kept-inputs t taken)) bytes (parts .1) (strict-kept (rows t) s at f (parts .1)) in
       let same : field (ofWitness t (record { counts = f .value .counts })) (f .next) ≡ b = cc in
-      subst (BodyRead 3 t s at) same (record {
-        same-kind = refl;
+      subst (RestRead witnesses t s at) same (record {
+        same-family = refl;
         same-table = refl;
         stands = read .stands;
         next = read .next;
@@ -86,8 +89,8 @@ module _ (t : Table) (s : List ℕ) (bytes : AllBytes s) (taken : NoneBroken (ta
   job-fields : (at : ℕ) (k : Field ℕ) (v w : Field Vector) (list : Field RowList) → numberAt s at ≡ answered k → vectorAt false (t .n) s (k .next) ≡ answered v
       → vectorAt false (t .n) s (v .next) ≡ answered w → rowListAt false (rows t) s (w .next) ≡ answered list → list .value .kept ≡ true
       → isSound (openJob t (k .value) (v .value) (w .value) (list .value .counts)) ≡ true
-      → BodyRead 4 t s at (field (ofJob (openJob t (k .value) (v .value) (w .value) (list .value .counts))) (list .next))
-  unfolding kindOf tableIn bodyBytes
+      → RestRead jobs t s at (field (ofJob (openJob t (k .value) (v .value) (w .value) (list .value .counts))) (list .next))
+  unfolding tableIn restBytes
   job-fields at k v w list ek ev ew el kept sound =
       let few = kept-inputs t taken in
       let number = number-written s at k bytes ek in
@@ -98,7 +101,7 @@ module _ (t : Table) (s : List ℕ) (bytes : AllBytes s) (taken : NoneBroken (ta
       let later = both-stand s (k .next) (vectorBytes (t .n) (v .value)) (vectorBytes (t .n) (w .value) ++ rowListBytes (list .value .counts)) (current .stands) (current .next) (last .0) (last .1) in
       let whole = both-stand s at (numberBytes (k .value)) (vectorBytes (t .n) (v .value) ++ (vectorBytes (t .n) (w .value) ++ rowListBytes (list .value .counts))) (number .stands) (number .next) (later .0) (later .1) in
       record {
-        same-kind = refl;
+        same-family = refl;
         same-table = refl;
         stands = whole .0;
         next = whole .1;
@@ -108,14 +111,14 @@ module _ (t : Table) (s : List ℕ) (bytes : AllBytes s) (taken : NoneBroken (ta
   job-tested : (at : ℕ) (b : Field Record) (k : Field ℕ) (v w : Field Vector) (list : Field RowList) → numberAt s at ≡ answered k → vectorAt false (t .n) s (k .next) ≡ answered v
       → vectorAt false (t .n) s (v .next) ≡ answered w → rowListAt false (rows t) s (w .next) ≡ answered list
       → checked (unsoundJob (list .value) (openJob t (k .value) (v .value) (w .value) (list .value .counts)) ∷ []) (answered (field (ofJob (openJob t (k .value) (v .value) (w .value) (list .value .counts))) (list .next))) ≡ answered b
-      → BodyRead 4 t s at b
+      → RestRead jobs t s at b
   job-tested at b k v w list ek ev ew el e =
       let j = openJob t (k .value) (v .value) (w .value) (list .value .counts) in
       let passed = checked-answered 9 (not (list .value .kept && isSound j)) (field (ofJob j) (list .next)) b e in
       let fine = not-false (list .value .kept && isSound j) (passed .0) in
-      subst (BodyRead 4 t s at) (passed .1) (job-fields at k v w list ek ev ew el (and-left (list .value .kept) (isSound j) fine) (and-right (list .value .kept) (isSound j) fine))
+      subst (RestRead jobs t s at) (passed .1) (job-fields at k v w list ek ev ew el (and-left (list .value .kept) (isSound j) fine) (and-right (list .value .kept) (isSound j) fine))
 
-  job-body : (at : ℕ) (b : Field Record) → jobAt t s at ≡ answered b → BodyRead 4 t s at b
+  job-body : (at : ℕ) (b : Field Record) → jobAt t s at ≡ answered b → RestRead jobs t s at b
   job-body at b e =
       let (k, ek, e₁) = onward-answered (numberAt s at) _ b e in
       let (v, ev, e₂) = onward-answered (vectorAt false (t .n) s (k .next)) _ b e₁ in
@@ -123,35 +126,39 @@ module _ (t : Table) (s : List ℕ) (bytes : AllBytes s) (taken : NoneBroken (ta
       let (list, el, e₄) = onward-answered (rowListAt false (rows t) s (w .next)) _ b e₃ in
       job-tested at b k v w list ek ev ew el e₄
 
-  -- by the kind
-  body-written : (kind at : ℕ) (b : Field Record) → 1 ≤ kind → kind ≤ 4 → bodyAt kind t s at ≡ answered b → BodyRead kind t s at b
-  unfolding bodyAt
-  body-written zero at b low high e = absurd (omega arith)
-  body-written (suc zero) at b low high e = table-body at b e
-  body-written (suc (suc zero)) at b low high e = gate-body at b e
-  body-written (suc (suc (suc zero))) at b low high e = witness-body at b e
-  body-written (suc (suc (suc (suc zero)))) at b low high e = job-body at b e
-  body-written (suc (suc (suc (suc (suc k))))) at b low high e = absurd (omega arith)
+  -- by the family
+  rest-written : (f : Family) (at : ℕ) (b : Field Record) → restAt f t s at ≡ answered b → RestRead f t s at b
+  unfolding restAt
+  rest-written tables at b e = table-body at b e
+  rest-written gates at b e = gate-body at b e
+  rest-written witnesses at b e = witness-body at b e
+  rest-written jobs at b e = job-body at b e
 
 -- a record that was read from bytes is written as they stand
-record-written : (s : List ℕ) (x : Record) (f : Field Head) (b : Field Record) → HeadRead 4 s 0 f → BodyRead (f .value .kind) (f .value .table) s (f .next) b
-    → ltb (b .next) (length s) ≡ false → b .value ≡ x → s ≡ recordBytes x
-record-written s x f b head body ends e =
-    let same : headBytes (f .value .kind) (f .value .table) ++ bodyBytes (b .value) ≡ recordBytes (b .value) =
-    ap₂ (λ (kind : ℕ) (t : Table). headBytes kind t ++ bodyBytes (b .value)) (sym (body .same-kind)) (sym (body .same-table)) ∙ sym (head-and-body (b .value)) in
-    let whole = both-stand s 0 (headBytes (f .value .kind) (f .value .table)) (bodyBytes (b .value)) (head .stands) (head .next) (body .stands) (body .next) in
-    stands-whole s (headBytes (f .value .kind) (f .value .table) ++ bodyBytes (b .value)) (whole .0) (omega (arith, whole .1, ltb-false (b .next) (length s) ends)) ∙ same ∙ ap recordBytes e
+record-written : (s : List ℕ) (x : Record) (k : Field Family) (t : Field Table) (b : Field Record) → KindRead s 0 k → TableRead s (k .next) t
+    → RestRead (k .value) (t .value) s (t .next) b → ltb (b .next) (length s) ≡ false → b .value ≡ x → s ≡ recordBytes x
+record-written s x k t b kind table rest ends e =
+    let first = kindOf (k .value) ∷ [] in
+    let own = tableBytes (t .value) in
+    let last = restBytes (b .value) in
+    let same : first ++ (own ++ last) ≡ recordBytes (b .value) =
+    ap₂ (λ (f : Family) (u : Table). (kindOf f ∷ []) ++ (tableBytes u ++ last)) (sym (rest .same-family)) (sym (rest .same-table)) ∙ sym (record-parts (b .value)) in
+    let body = both-stand s (k .next) own last (table .stands) (table .next) (rest .stands) (rest .next) in
+    let whole = both-stand s 0 first (own ++ last) (kind .stands) (kind .next) (body .0) (body .1) in
+    stands-whole s (first ++ (own ++ last)) (whole .0) (omega (arith, whole .1, ltb-false (b .next) (length s) ends)) ∙ same ∙ ap recordBytes e
 
 -- writing what was read gives the same bytes
 pub write-back : (s : List ℕ) → AllBytes s → (x : Record) → readRecord s ≡ answered x → (room : ℕ) → length s ≤ room → writeRecord x room ≡ answered s
 unfolding recordAt
 write-back s bytes x e room h =
-    let (f, ef, e₁) = onward-answered (headAt 4 s 0) _ x e in
-    let (b, eb, e₂) = onward-answered (bodyAt (f .value .kind) (f .value .table) s (f .next)) _ x e₁ in
+    let (k, ek, e₁) = onward-answered (kindAt everyFamily s 0) _ x e in
+    let (b, eb, e₂) = onward-answered (bodyAt (k .value) s (k .next)) _ x e₁ in
     let ended = checked-answered 6 (ltb (b .next) (length s)) (b .value) x e₂ in
-    let head = head-written 4 s 0 f bytes ef in
-    let body = body-written (f .value .table) s bytes (head .taken) (f .value .kind) (f .next) b (head .low) (head .high) eb in
-    let same = record-written s x f b head body (ended .0) (ended .1) in
+    let (t, et, er) = onward-answered (tableAt s (k .next)) (λ u p. restAt (k .value) u s p) b (sym (body-is (k .value) s (k .next)) ∙ eb) in
+    let kind = kind-written everyFamily s 0 k ek in
+    let table = table-written s (k .next) t bytes et in
+    let body = rest-written (t .value) s bytes (table .taken) (k .value) (t .next) b er in
+    let same = record-written s x k t b kind table body (ended .0) (ended .1) in
     let room-left : ltb room (length (recordBytes x)) ≡ false = le-ltb room (length (recordBytes x)) (omega (arith, ap length same)) in
     let kept : NoneBroken (recordRules x (tooShort room (recordBytes x) ∷ [])) =
     subst (λ (y : Record). NoneBroken (recordRules y (tooShort room (recordBytes x) ∷ []))) (ended .1) (body .rules (tooShort room (recordBytes x) ∷ []) (also room-left none)) in

@@ -1,17 +1,17 @@
 -- The calls that write records: for each its rules in their order, and its answer (document 01, "Records" and "Who causes which number").
 -- Definitions only. Assumes nothing.
-use mathlib.Core.Bool.{Bool, true, false}
-use mathlib.Core.List.{List, [], _∷_}
+use mathlib.Core.Path.{_≡_}
+use mathlib.Core.List.{List, [], _∷_, _++_}
 use Prim.Native.Nat.{ℕ}
 use lib.Dec.{ltb}
 use lib.ListN.{length}
 use Rattle.cell.specs.Refusal.{Rule, rule, Answered, answered, refused, checked}
-use Rattle.cell.specs.Calls.{tableRules, otherInputs, gateRange, witnessRange}
+use Rattle.cell.specs.Calls.{tableRules, gateRules, witnessRules}
 use Rattle.job.specs.declared.job.Job.{Job}
-use Rattle.types.specs.declared.stage.Stage.{Stage}
-use Rattle.types.specs.declared.stage.Stage.the-variants.{Open, Found, Looped, Binate}
-use Rattle.job.specs.Calls.{jobRules}
-use Rattle.codec.specs.Field.{writtenAt}
+use Rattle.job.specs.Calls.{jobRules, isEnded}
+use Rattle.codec.specs.Written.{writtenAt}
+use Rattle.codec.specs.Number.{numberBytes}
+use Rattle.codec.specs.VectorField.{vectorBytes}
 use Rattle.writers.specs.declared.write.Written.{Written}
 use Rattle.writers.specs.declared.write.Written.the-variants as Written′
 use Rattle.records.specs.Record.{Record, ofTable, ofGate, ofWitness, ofJob, recordBytes}
@@ -22,22 +22,20 @@ use Rattle.records.specs.Record.{Record, ofTable, ofGate, ofWitness, ofJob, rec
 abbrev pub tooShort : ℕ → List ℕ → Rule
 tooShort room bytes = rule 12 (ltb room (length bytes))
 
-abbrev pub isEnd : Stage → Bool
-isEnd Open = false
-isEnd Found = true
-isEnd Looped = true
-isEnd Binate = true
-
 -- 13: saving an ended job
 abbrev pub hasEnded : Job → Rule
-hasEnded j = rule 13 (isEnd (j .stage))
+hasEnded j = rule 13 (isEnded (j .state .stage))
 
 -- the rules of a record, before the others of the call that writes it
 abbrev pub recordRules : Record → List Rule → List Rule
 recordRules (ofTable t) others = tableRules t others
-recordRules (ofGate t g) others = otherInputs t g ∷ tableRules t (gateRange g ∷ others)
-recordRules (ofWitness t w) others = tableRules t (witnessRange t w ∷ others)
+recordRules (ofGate t g) others = gateRules t g others
+recordRules (ofWitness t w) others = witnessRules t w others
 recordRules (ofJob j) others = jobRules j (hasEnded j ∷ others)
+
+-- K, v and s of a job, the fields of its record before the row list
+abbrev pub numbersBytes : Job → List ℕ
+numbersBytes j = (numberBytes (j .state .k) ++ vectorBytes (j .table .n) (j .state .v)) ++ vectorBytes (j .table .n) (j .state .s)
 
 -- the bytes to write, in a buffer of so many bytes
 abbrev pub writeRecord : Record → ℕ → Answered (List ℕ)
@@ -52,3 +50,7 @@ written (refused n) = Written′.Refused n
 abbrev pub lent : List ℕ → Answered (List ℕ) → List ℕ
 lent out (answered bytes) = writtenAt out 0 bytes
 lent out (refused n) = out
+
+-- what a call that writes a record comes to: what it returns, and the lent buffer before and after it
+abbrev pub Wrote : Record → (old : List ℕ) → Written → (new : List ℕ) → Type 0
+Wrote x old r new = (r ≡ written (writeRecord x (length old))) × (new ≡ lent old (writeRecord x (length old)))

@@ -8,12 +8,12 @@ use lib.Seq.{length-take-le}
 use Rattle.types.specs.declared.table.Table.{Table}
 use Rattle.table.specs.Table.{byteCount}
 use Rattle.table.proofs.TableLaws.{bytes-le}
-use Rattle.codec.specs.Head.{headBytes}
+use Rattle.codec.specs.TableField.{tableBytes, headBytes}
 use Rattle.codec.proofs.NumberLaws.{number-one}
 
 -- the bytes of a head
 pub head-bytes : (kind : ℕ) (t : Table) → t .n ≤ 8 → headBytes kind t ≡ kind ∷ t .n ∷ take (byteCount (t .n)) (t .bytes)
-unfolding headBytes
+unfolding headBytes tableBytes
 head-bytes kind t h = rw (number-one (t .n) (omega arith))
 
 -- how many there are

@@ -1,2 +1,2 @@
+-- the kind byte and the table of a record, byte by byte
 pub mod HeadParts
-pub mod RowParts

@@ -7,7 +7,7 @@ ghost use Prim.Native.Nat.{_≤_};
 ghost use lib.ListN.{length};
 ghost use Rattle.codec.specs.Number.{numberBytes, signedCode};
 ghost use Rattle.codec.specs.VectorField.{vectorBytes};
-ghost use Rattle.codec.specs.Head.{headBytes};
+ghost use Rattle.codec.specs.TableField.{headBytes};
 
 // Returns how many bytes a number takes.
 pub fn number_length(x: u32) -> usize
@@ -45,7 +45,7 @@ pub fn vector_length(v: Vector, n: u8) -> usize
     length + number_length(signed_code(v.b))
 }
 
-// Returns how many bytes the head of a record takes.
+// Returns how many bytes the kind byte and the table of a record take.
 pub fn head_length(table: Table, kind: u8) -> usize
     requires { ⌜ table .n ≤ 8 ⌝ }
     ensures { λ r. ⌜ r ≡ length (headBytes kind table) ⌝ }

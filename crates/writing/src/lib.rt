@@ -2,4 +2,3 @@
 // ranges.
 pub mod length;
 pub mod put;
-pub mod rows;

@@ -6,18 +6,17 @@ use types::table::Table;
 use types::vector::Vector;
 ghost use mathlib.Core.Path.{_≡_};
 ghost use mathlib.Core.Bool.{true};
-ghost use Prim.Native.Nat.{_+_, _≤_, _<_};
-ghost use lib.ListN.{length};
+ghost use Prim.Native.Nat.{_≤_, _<_};
 ghost use Rattle.table.specs.Gate.{weightLimit, inRange};
-ghost use Rattle.codec.specs.Field.{writtenAt};
+ghost use Rattle.codec.specs.Written.{Room, Put};
 ghost use Rattle.codec.specs.Number.{numberBytes};
 ghost use Rattle.codec.specs.VectorField.{vectorBytes};
-ghost use Rattle.codec.specs.Head.{headBytes};
+ghost use Rattle.codec.specs.TableField.{headBytes};
 
 // Writes a number below 2^21.
 pub fn put_number(out: &mut [u8], at: usize, x: u32) -> usize
-    requires { ⌜ (x < 2097152) × (at + length (numberBytes x) ≤ length (now out)) ⌝ }
-    ensures { λ r. ⌜ (r ≡ at + length (numberBytes x)) × (now (out .exit) ≡ writtenAt (now (out .entry)) at (numberBytes x)) ⌝ }
+    requires { ⌜ (x < 2097152) × Room (now out) at (numberBytes x) ⌝ }
+    ensures { λ r. ⌜ Put (now (out .entry)) at (numberBytes x) (now (out .exit)) r ⌝ }
 {
     if x < 128 {
         out[at] = x as u8;
@@ -35,8 +34,8 @@ pub fn put_number(out: &mut [u8], at: usize, x: u32) -> usize
 
 // Writes n weights and b, of a vector in range.
 pub fn put_vector(out: &mut [u8], at: usize, n: u8, v: Vector) -> usize
-    requires { ⌜ (n ≤ 8) × (inRange weightLimit 8 (v .a) (v .b) ≡ true) × (at + length (vectorBytes n v) ≤ length (now out)) ⌝ }
-    ensures { λ r. ⌜ (r ≡ at + length (vectorBytes n v)) × (now (out .exit) ≡ writtenAt (now (out .entry)) at (vectorBytes n v)) ⌝ }
+    requires { ⌜ (n ≤ 8) × (inRange weightLimit 8 (v .a) (v .b) ≡ true) × Room (now out) at (vectorBytes n v) ⌝ }
+    ensures { λ r. ⌜ Put (now (out .entry)) at (vectorBytes n v) (now (out .exit)) r ⌝ }
 {
     let a = v.a;
     let mut here = at;
@@ -48,10 +47,10 @@ pub fn put_vector(out: &mut [u8], at: usize, n: u8, v: Vector) -> usize
     put_number(out, here, signed_code(v.b))
 }
 
-// Writes the head of a record at the start of the buffer.
+// Writes the kind byte and the table of a record at the start of the buffer.
 pub fn put_head(out: &mut [u8], kind: u8, table: Table) -> usize
-    requires { ⌜ (table .n ≤ 8) × (length (headBytes kind table) ≤ length (now out)) ⌝ }
-    ensures { λ r. ⌜ (r ≡ length (headBytes kind table)) × (now (out .exit) ≡ writtenAt (now (out .entry)) 0 (headBytes kind table)) ⌝ }
+    requires { ⌜ (table .n ≤ 8) × Room (now out) 0 (headBytes kind table) ⌝ }
+    ensures { λ r. ⌜ Put (now (out .entry)) 0 (headBytes kind table) (now (out .exit)) r ⌝ }
 {
     out[0] = kind;
     out[1] = table.n;

@@ -1,9 +1,8 @@
 -- `claims::numbers_on_their_conditions`: the law of rules, at each call's list. Assumes nothing.
 use mathlib.Core.List.{[]}
-use Rattle.table.specs.Table.{value}
-use Rattle.table.specs.Gate.{realises}
-use Rattle.function.specs.Gate.{gateTrue}
-use Rattle.table.specs.Witness.{balances}
+use Rattle.table.specs.Table.{value, functionOf}
+use Rattle.function.specs.Gate.{gateTrue, realises}
+use Rattle.function.specs.Witness.{countOf, balances}
 use Rattle.table.specs.Inputs.{kindsOf}
 use Rattle.table.specs.Chow.{chowOf}
 use Rattle.cell.specs.Calls.{tableRules, tableValueRules, gateValueRules, checkGateRules, checkWitnessRules}
@@ -16,8 +15,8 @@ returns : tie.Need-returns
 returns c = record {
   table-value = λ t r. by-rules (tableValueRules t r) (value t r);
   gate-value = λ g r. by-rules (gateValueRules g r) (gateTrue (g .weights) (g .threshold) (level 2 r));
-  check-gate = λ t g. by-rules (checkGateRules t g) (realises t g);
-  check-witness = λ t w. by-rules (checkWitnessRules t w) (balances t w);
+  check-gate = λ t g. by-rules (checkGateRules t g) (realises (g .weights) (g .threshold) (functionOf t));
+  check-witness = λ t w. by-rules (checkWitnessRules t w) (balances (functionOf t) (countOf (w .counts)));
   input-kinds = λ t. by-rules (tableRules t []) (kindsOf t);
   chow-parameters = λ t. by-rules (tableRules t []) (chowOf t);
 }

@@ -1,22 +1,34 @@
 -- `claims::tables_as_written`: the laws of the definitions over a function, at a table. Assumes nothing.
-use mathlib.Core.Path.{ap}
-use Rattle.table.specs.Table.{functionOf}
-use Rattle.table.proofs.OnTables.{table-realises, table-balances, table-turns, table-fails}
+use native.Mathlib.Nat.{one-mul}
+use Rattle.function.proofs.VectorLaws.{corrected-threshold}
+use Rattle.function.specs.Function.{level}
+use Rattle.table.specs.Table.{value, functionOf}
+use Rattle.table.proofs.OnTables.{table-realises, table-balances, table-total, table-input-total, table-turns, table-fails, table-corrected-a}
+use Rattle.table.proofs.BinateRows.{table-binate-counts}
 use Rattle.state.proofs.MachineLaws.{fresh-binate}
 use Rattle.state.proofs.FreshSound.{table-fresh-open}
-use Rattle.job.specs.Machine.{jobOf, fresh}
+use Rattle.job.specs.Machine.{fresh}
+use Rattle.claims.proofs.TrueInputs.{table-distance, table-gate-true}
 use Rattle.claims.proofs.tables_as_written.Statement.{statement}
 use Rattle.claims.proofs.tables_as_written.Tie as tie
 
 returns : tie.Need-returns
 unfolding fresh
 returns c = λ t. record {
+  distance-as = table-distance;
+  gate-true = table-gate-true;
   realises = table-realises t;
   balances = λ count. (λ b. (b .total, b .above, b .inputs), λ b. table-balances t count (b .0) (b .1) (b .2));
+  total = table-total t;
+  input-total = table-input-total t;
   turns = table-turns t;
+  fresh-unate = λ e i. record { table = t; state = table-fresh-open t e i };
+  fresh-binate = λ place e i. record { table = t; state = fresh-binate (functionOf t) place e i };
+  binate-rows = λ few place rise fall binate. table-binate-counts t place few binate rise fall;
   fails-as = table-fails t;
-  fresh-unate = λ e. ap (jobOf t) (table-fresh-open t e);
-  fresh-binate = λ place e. ap (jobOf t) (fresh-binate (functionOf t) place e);
+  corrected-a = table-corrected-a t;
+  corrected-b = λ v r. corrected-threshold (value t r) (level 2 r) v;
+  ranged = λ k v. (λ h. rw (one-mul k) at h, λ h. rw (one-mul k) h);
 }
 
 pub tables-as-written-spec : {M : Type 1} → statement M

@@ -45,55 +45,22 @@ abbrev μ-loop : tie.MeasureT-loop
 loop-holds : tie.Need-loop-holds Inv-loop μ-loop
 loop-holds c = (omega arith, omega arith, within-zeros, within-zeros)
 
-table-of-requires : tie.Need-table-of-requires Inv-loop μ-loop
-table-of-requires c κs = search needs
-
-run-requires : tie.Need-run-requires Inv-loop μ-loop
-run-requires c κs = search needs
-
 mul-jobs : tie.Need-mul-jobs Inv-loop μ-loop
 mul-jobs c = search needs
-
-array-read-jobs : tie.Need-array-read-jobs Inv-loop μ-loop
-array-read-jobs c = search needs
 
 add-jobs : tie.Need-add-jobs Inv-loop μ-loop
 add-jobs c =
     let head = c .before .before .before .loop in
     omega (arith, head .inv .2 .1 (c .run .result .stage))
 
-mul-jobs-2 : tie.Need-mul-jobs-2 Inv-loop μ-loop
-mul-jobs-2 c = search needs
-
-array-write-jobs : tie.Need-array-write-jobs Inv-loop μ-loop
-array-write-jobs c = search needs
-
 mul-corrections : tie.Need-mul-corrections Inv-loop μ-loop
 mul-corrections c = search needs
-
-array-read-corrections : tie.Need-array-read-corrections Inv-loop μ-loop
-array-read-corrections c = search needs
 
 add-corrections : tie.Need-add-corrections Inv-loop μ-loop
 add-corrections c =
     let head = c .before .before .before .before .loop in
     let ended = c .before .run in
     omega (arith, head .inv .3 .1 (ended .result .stage), ended .ensures .1)
-
-mul-corrections-2 : tie.Need-mul-corrections-2 Inv-loop μ-loop
-mul-corrections-2 c = search needs
-
-array-write-corrections : tie.Need-array-write-corrections Inv-loop μ-loop
-array-write-corrections c = search needs
-
-add-accepted : tie.Need-add-accepted Inv-loop μ-loop
-add-accepted c = search needs
-
-add-rows : tie.Need-add-rows Inv-loop μ-loop
-add-rows c = search needs
-
-loop-less : tie.Need-loop-less Inv-loop μ-loop
-loop-less c = search needs
 
 loop-again : tie.Need-loop-again Inv-loop μ-loop
 loop-again c =
@@ -105,9 +72,6 @@ loop-again c =
       within-more (ended .result .corrections) (head .corrections) (ended .result .stage) (head .inv .3) (omega (arith, ended .ensures .1)),
     )
 
-returns : tie.Need-returns Inv-loop μ-loop
-returns c = search needs
-
 pub tally-of-spec : {M : Type 1} → statement M
 tally-of-spec =
     tie.close
@@ -115,20 +79,20 @@ tally-of-spec =
     Inv-loop
     μ-loop
     loop-holds
-    table-of-requires
-    run-requires
+    (λ c κs. search needs)
+    (λ c κs. search needs)
     mul-jobs
-    array-read-jobs
+    (λ c. search needs)
     add-jobs
-    mul-jobs-2
-    array-write-jobs
+    (λ c. search needs)
+    (λ c. search needs)
     mul-corrections
-    array-read-corrections
+    (λ c. search needs)
     add-corrections
-    mul-corrections-2
-    array-write-corrections
-    add-accepted
-    add-rows
-    loop-less
+    (λ c. search needs)
+    (λ c. search needs)
+    (λ c. search needs)
+    (λ c. search needs)
+    (λ c. search needs)
     loop-again
-    returns)
+    (λ c. search needs))

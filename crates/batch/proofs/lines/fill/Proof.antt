@@ -23,9 +23,6 @@ Inv-loop input out₀ steps count₀ size₀ next₀ out count size next = Lined
 abbrev μ-loop : tie.MeasureT-loop
 μ-loop input out₀ steps count₀ size₀ next₀ out count size next = length out₀ - size
 
-step-table-requires : tie.Need-step-table-requires Inv-loop μ-loop
-step-table-requires c κs = search needs
-
 loop-holds : tie.Need-loop-holds Inv-loop μ-loop
 loop-holds c = let s = c .before .before .before in lined-none (now (s .args .input)) (s .args .progress) (now (s .args .out)) (s .pre .1)
 
@@ -40,17 +37,11 @@ kept c = let a = c .before .before .before .before .args in lined-length (now (a
 sub-loop : tie.Need-sub-loop Inv-loop μ-loop
 sub-loop c = omega (arith, kept c, c .loop .inv .fits)
 
-is-done-requires : tie.Need-is-done-requires Inv-loop μ-loop
-is-done-requires c κs = search needs
-
 sub-next-line : tie.Need-sub-next-line Inv-loop μ-loop
 sub-next-line c = sub-loop (c .before .before .before .before)
 
 part-next-line-start : tie.Need-part-next-line-start Inv-loop μ-loop
 part-next-line-start c = sub-loop (c .before .before .before .before)
-
-part-next-line-end : tie.Need-part-next-line-end Inv-loop μ-loop
-part-next-line-end c = search needs
 
 next-line-requires : tie.Need-next-line-requires Inv-loop μ-loop
 next-line-requires c κs =
@@ -76,7 +67,7 @@ module _ (c : tie.After-next-line Inv-loop μ-loop) where
   some =
       let test = c .before .before .before in
       let moves = advance-moves (now (start .args .input)) (at .loop .next) (sym (test .before .is-done .ensures) ∙ not-true _ (test .if1 .taken)) in
-      omega (arith, moves .0, c .next-line .ensures .0 .0)
+      omega (arith, moves .0, c .next-line .ensures .0 .0 .0)
 
   -- and there is room for it
   room : at .loop .length + c .next-line .result .length ≤ length (at .loop .out)
@@ -106,7 +97,7 @@ filled : (c : tie.At-loop Inv-loop μ-loop)
     → Filled (now (a .input)) (a .progress) (now (a .out)) (c .loop .out) (record { count = c .loop .count; length = c .loop .length; next = c .loop .next }))
 filled c some =
     let lined = c .loop .inv in
-    record { bytes = lined .bytes; long = lined .long; fits = lined .fits; next = lined .next; bounded = lined .bounded; some = some }
+    record { stand = lined .stand; fits = lined .fits; next = lined .next; bounded = lined .bounded; some = some }
 
 same-length : tie.Need-same-length Inv-loop μ-loop
 same-length c = kept (c .before .before .before)
@@ -130,13 +121,13 @@ fill-spec =
     (tie.spec
     Inv-loop
     μ-loop
-    step-table-requires
+    (λ c κs. search needs)
     loop-holds
     sub-loop
-    is-done-requires
+    (λ c κs. search needs)
     sub-next-line
     part-next-line-start
-    part-next-line-end
+    (λ c. search needs)
     next-line-requires
     add-count
     add-length

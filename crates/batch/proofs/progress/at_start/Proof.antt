@@ -7,11 +7,8 @@ use Rattle.batch.specs.Progress.{progress}
 use Rattle.batch.proofs.progress.at_start.Statement.{statement}
 use Rattle.batch.proofs.progress.at_start.Tie as tie
 
-no-tally-requires : tie.Need-no-tally-requires
-no-tally-requires c κs = search needs
-
 returns : tie.Need-returns
 returns c = ap (λ (t : Tally). progress 0 t Records) (c .no-tally .ensures)
 
 pub at-start-spec : {M : Type 1} → statement M
-at-start-spec = tie.close (tie.spec no-tally-requires returns)
+at-start-spec = tie.close (tie.spec (λ c κs. search needs) returns)

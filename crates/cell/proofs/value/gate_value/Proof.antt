@@ -14,14 +14,8 @@ use Rattle.cell.proofs.value.gate_value.Tie as tie
 returns : tie.Need-returns
 returns c = simp (lt-ltb _ _ (c .if1 .taken))
 
-gate-beyond-requires : tie.Need-gate-beyond-requires
-gate-beyond-requires c κs = search needs
-
 returns-2 : tie.Need-returns-2
 returns-2 c = simp (le-ltb _ _ (c .before .before .if1 .left), sym (c .before .gate-beyond .ensures) ∙ c .if2 .taken)
-
-row-count-requires : tie.Need-row-count-requires
-row-count-requires c κs = search needs
 
 returns-3 : tie.Need-returns-3
 returns-3 c =
@@ -35,9 +29,6 @@ gate-true-requires c κs =
     let else2 = c .before .before in
     omega (arith, rows-le (else2 .before .before .if1 .left))
 
-as-answer-requires : tie.Need-as-answer-requires
-as-answer-requires c κs = search needs
-
 returns-4 : tie.Need-returns-4
 returns-4 c =
     let else2 = c .before .before .before .before in
@@ -48,13 +39,4 @@ returns-4 c =
 
 pub gate-value-spec : {M : Type 1} → statement M
 gate-value-spec =
-    tie.close
-    (tie.spec
-    returns
-    gate-beyond-requires
-    returns-2
-    row-count-requires
-    returns-3
-    gate-true-requires
-    as-answer-requires
-    returns-4)
+    tie.close (tie.spec returns (λ c κs. search needs) returns-2 (λ c κs. search needs) returns-3 gate-true-requires (λ c κs. search needs) returns-4)

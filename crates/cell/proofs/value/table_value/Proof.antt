@@ -20,20 +20,11 @@ use Rattle.cell.proofs.value.table_value.Tie as tie
 abbrev others : Table → ℕ → List Rule
 others t r = pastRows (t .n) r ∷ []
 
-table-status-requires : tie.Need-table-status-requires
-table-status-requires c κs = search needs
-
-enum-known-status : tie.Need-enum-known-status
-enum-known-status c = search needs
-
 returns : tie.Need-returns
 returns c =
     let at = c .before .before .before in
     let a = at .before .args in
     ap answer (table-refused (a .table) (at .table-status .ensures) (others (a .table) (a .row)) (answered (value (a .table) (a .row))) (c .before .status .given .1))
-
-enum-told : tie.Need-enum-told
-enum-told c = search needs
 
 row-count-requires : tie.Need-row-count-requires
 row-count-requires c κs = table-inputs _ (c .before .before .table-status .ensures) (c .enum-told .given .1)
@@ -53,9 +44,6 @@ row-value-requires c κs =
     let at = told .before .before in
     omega (arith, rows-le (table-inputs (at .before .args .table) (at .table-status .ensures) (told .enum-told .given .1)))
 
-as-answer-requires : tie.Need-as-answer-requires
-as-answer-requires c κs = search needs
-
 returns-3 : tie.Need-returns-3
 returns-3 c =
     let told = c .before .before .before .before in
@@ -71,12 +59,12 @@ pub table-value-spec : {M : Type 1} → statement M
 table-value-spec =
     tie.close
     (tie.spec
-    table-status-requires
-    enum-known-status
+    (λ c κs. search needs)
+    (λ c. search needs)
     returns
-    enum-told
+    (λ c. search needs)
     row-count-requires
     returns-2
     row-value-requires
-    as-answer-requires
+    (λ c κs. search needs)
     returns-3)

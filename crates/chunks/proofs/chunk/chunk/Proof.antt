@@ -1,4 +1,4 @@
--- `chunks::chunk::chunk` meets its contract. The loop's invariant is `Going` of ChunkLaws, which has the laws of a turn; the measure is what
+-- `chunks::chunk::chunk` meets its contract. The loop's invariant is `Going` of ChunkLaws, which has the laws of a pass; the measure is what
 -- is left of the budget. Assumes nothing.
 use mathlib.Core.Path.{_≡_, refl, sym, _∙_, ap, ap₂}
 use mathlib.Core.Logic.{⊎-elim, _≢_}
@@ -14,8 +14,8 @@ use Rattle.types.specs.declared.table.Table.{Table}
 use Rattle.types.specs.declared.state.State.{State}
 use Rattle.chunks.specs.Core.{stateOf}
 use Rattle.state.proofs.StandsLaws.{Bounded}
-use Rattle.chunks.proofs.HeldLaws.{withVectors, Held, held-start, restores}
-use Rattle.chunks.proofs.ChunkLaws.{Begun, Turned, Going, held-narrow, held-turned, turned-bounded, turned-row, turned-cleared, turned-going, turned-closed, turned-marked, turned-other, going-ends}
+use Rattle.chunks.proofs.FollowLaws.{withVectors, Follows, follows-start, restores}
+use Rattle.chunks.proofs.ChunkLaws.{Begun, Passed, Going, follows-narrow, follows-passed, passed-bounded, passed-row, passed-cleared, passed-going, passed-closed, passed-marked, passed-other, going-ends}
 use Rattle.chunks.proofs.chunk.chunk.Statement.{statement}
 use Rattle.chunks.proofs.chunk.chunk.Tie as tie
 
@@ -27,12 +27,6 @@ abbrev μ-loop : tie.MeasureT-loop
 μ-loop table counts₀ budget steps rows ones keys j₀ v₀ s₀ next₀ made₀ counts j v s next made = budget - made
 
 -- ---- before the loop
-
-row-count-requires : tie.Need-row-count-requires Inv-loop μ-loop
-row-count-requires c κs = search needs
-
-lane-values-requires : tie.Need-lane-values-requires Inv-loop μ-loop
-lane-values-requires c κs = search needs
 
 store-ones-requires : tie.Need-store-ones-requires Inv-loop μ-loop
 store-ones-requires c κs = let at = c .before .before in ((at .before .before .pre .0 .0, at .lane-values .ensures), refl)
@@ -72,26 +66,26 @@ tabled c = c .before .before .before .before .before
 
 started : (c : tie.After-keys2 Inv-loop μ-loop)
     → let at = c .before .before .before in
-    Held (table (tabled c)) (state (tabled c)) 0 (state (tabled c)) (at .before .sums-of .result) (at .sums-of2 .result)
+    Follows (table (tabled c)) (state (tabled c)) 0 (state (tabled c)) (at .before .sums-of .result) (at .sums-of2 .result)
 started c =
     let at = c .before .before .before in
     let p = entry (tabled c) .pre in
-    held-start (p .0 .1) (p .0 .2) (p .1 .1) (at .before .sums-of .ensures) (at .sums-of2 .ensures)
+    follows-start (p .0 .1) (p .0 .2) (p .1 .1) (at .before .sums-of .ensures) (at .sums-of2 .ensures)
 
 -- the search asks for the rows' ones and keys
 lowest-requires : tie.Need-lowest-requires Inv-loop μ-loop
 lowest-requires c κs =
     let from = tabled c in (
       (begun from .inputs, from .before .before .before .store-ones .ensures, from .store-keys .ensures),
-      held-narrow (begun from) (omega arith) (started c),
+      follows-narrow (begun from) (omega arith) (started c),
     )
 
 loop-holds : tie.Need-loop-holds Inv-loop μ-loop
 loop-holds c =
     let from = begun (tabled (c .before)) in
-    turned-going from (held-turned from (omega arith) (started (c .before)) (c .lowest .ensures))
+    passed-going from (follows-passed from (omega arith) (started (c .before)) (c .lowest .ensures))
 
--- ---- the row of a turn
+-- ---- the row of a pass
 
 abbrev from-head : tie.At-loop Inv-loop μ-loop → tie.After-store-keys Inv-loop μ-loop
 from-head c = tabled (c .before .before)
@@ -110,19 +104,19 @@ coded c = ltb-true (head c .loop .next) 512 (c .if1 .taken)
 other : (c : tie.Then1 Inv-loop μ-loop) → head c .loop .next ≢ 512
 other c e = omega (arith, coded c)
 
-turned : (c : tie.Then1 Inv-loop μ-loop)
+passed : (c : tie.Then1 Inv-loop μ-loop)
     → let at = head c in
     let from = from-head at in
-    Turned (table from) (state from) (entry from .args .budget) (at .loop .made) (looped at) (at .loop .v) (at .loop .s) (at .loop .next)
-turned c = head c .loop .inv .turned (omega (arith, coded c))
+    Passed (table from) (state from) (entry from .args .budget) (at .loop .made) (looped at) (at .loop .v) (at .loop .s) (at .loop .next)
+passed c = head c .loop .inv .passed (omega (arith, coded c))
 
--- no number of the turn's state wraps
-bounded : (c : tie.Then1 Inv-loop μ-loop) → Bounded (table (from-head (head c))) (withVectors (turned c .held .v) (turned c .held .s) (looped (head c)))
-bounded c = turned-bounded (begun (from-head (head c))) (turned c)
+-- no number of the pass's state wraps
+bounded : (c : tie.Then1 Inv-loop μ-loop) → Bounded (table (from-head (head c))) (withVectors (passed c .follows .v) (passed c .follows .s) (looped (head c)))
+bounded c = passed-bounded (begun (from-head (head c))) (passed c)
 
 -- the row is one of the 256
 row-below : (c : tie.Then1 Inv-loop μ-loop) → head c .loop .next / 2 < 256
-row-below c = turned-row (begun (from-head (head c))) (turned c) (other c)
+row-below c = passed-row (begun (from-head (head c))) (passed c) (other c)
 
 add-j : tie.Need-add-j Inv-loop μ-loop
 add-j c = omega (arith, bounded (c .before) .capped)
@@ -148,19 +142,16 @@ correct-requires : tie.Need-correct-requires Inv-loop μ-loop
 correct-requires c κs =
     let at = c .before .before .before in
     let from = from-head (head at) in
-    (coded at, entry from .pre .1 .3, held-narrow (begun from) (turned at .within) (turned at .held) .0)
+    (coded at, entry from .pre .1 .3, follows-narrow (begun from) (passed at .within) (passed at .follows) .0)
 
--- the turn's row, from the comparison
-abbrev turn : tie.After-s Inv-loop μ-loop → tie.Then1 Inv-loop μ-loop
-turn c = c .before .before .before .before .before .before
+-- the pass's row, from the comparison
+abbrev pass : tie.After-s Inv-loop μ-loop → tie.Then1 Inv-loop μ-loop
+pass c = c .before .before .before .before .before .before
 
 same-sums-requires : tie.Need-same-sums-requires Inv-loop μ-loop
-same-sums-requires c κs = begun (from-head (head (turn c))) .inputs
+same-sums-requires c κs = begun (from-head (head (pass c))) .inputs
 
 -- ---- what follows it
-
-top-power-requires : tie.Need-top-power-requires Inv-loop μ-loop
-top-power-requires c κs = search needs
 
 -- the comparison, from past step 4
 abbrev compared : tie.After-struct-known2 Inv-loop μ-loop → tie.After-same-sums Inv-loop μ-loop
@@ -168,20 +159,20 @@ compared c = c .before .before .before
 
 clear-requires : tie.Need-clear-requires Inv-loop μ-loop
 clear-requires c κs =
-    let at = turn (compared (c .before .before) .before) in
+    let at = pass (compared (c .before .before) .before) in
     let from = from-head (head at) in (
       length-set (head at .loop .counts) (head at .loop .next / 2) _ ∙ bounded at .shaped .counts,
       omega (arith, rows-of from, rows-le (begun from .inputs)),
     )
 
 -- there the loop stands at the next step
-held-on : (c : tie.Joined3 Inv-loop μ-loop)
-    → let at = head (turn (compared (c .before) .before)) in
+follows-on : (c : tie.Joined3 Inv-loop μ-loop)
+    → let at = head (pass (compared (c .before) .before)) in
     let from = from-head at in
     let sums = compared (c .before) .before .before .before .correct .last .0 in
-    Held (table from) (state from) (at .loop .made + 1) (stateOf (c .if3 .j) (c .if3 .counts)) sums (c .if3 .s)
-held-on c =
-    let at = turn (compared (c .before) .before) in
+    Follows (table from) (state from) (at .loop .made + 1) (stateOf (c .if3 .j) (c .if3 .counts)) sums (c .if3 .s)
+follows-on c =
+    let at = pass (compared (c .before) .before) in
     let from = from-head (head at) in
     let corrects = compared (c .before) .before .before .before .correct .ensures in
     let compares = compared (c .before) .same-sums .ensures in
@@ -189,56 +180,50 @@ held-on c =
     let power = c .before .before .top-power .ensures in
     ⊎-elim
     (λ w.
-    let uncounted = turned-cleared (begun from) (turned at) (other at) (w .2 .ensures ∙ ap (filled _ _) (rows-of from)) in
-    turned-marked (begun from) (turned at) (other at) corrects compares differs (eq-eqb _ _ (sym power ∙ w .0 .taken))
+    let uncounted = passed-cleared (begun from) (passed at) (other at) (w .2 .ensures ∙ ap (filled _ _) (rows-of from)) in
+    passed-marked (begun from) (passed at) (other at) corrects compares differs (eq-eqb _ _ (sym power ∙ w .0 .taken))
     (ap₂ stateOf (w .4) (w .3 ∙ uncounted)) (w .5))
     (λ w.
-    turned-other (begun from) (turned at) (other at) corrects compares differs (ne-eqb _ _ (λ e. w .0 .left (power ∙ e)))
+    passed-other (begun from) (passed at) (other at) corrects compares differs (ne-eqb _ _ (λ e. w .0 .left (power ∙ e)))
     (ap₂ stateOf (w .2) (w .1)) (w .3))
     (c .if3 .came)
 
 lowest-requires-2 : tie.Need-lowest-requires-2 Inv-loop μ-loop
 lowest-requires-2 c κs =
     let on = c .before .before .before in
-    let at = turn (compared (on .before) .before) in
+    let at = pass (compared (on .before) .before) in
     let from = from-head (head at) in (
       (begun from .inputs, from .before .before .before .store-ones .ensures, from .store-keys .ensures),
-      held-narrow (begun from) (omega (arith, at .before .loop-test .taken)) (held-on on),
+      follows-narrow (begun from) (omega (arith, at .before .loop-test .taken)) (follows-on on),
     )
 
 add-made : tie.Need-add-made Inv-loop μ-loop
 add-made c =
-    let at = turn (c .before .before) in
+    let at = pass (c .before .before) in
     omega (arith, at .before .loop-test .taken, begun (from-head (head at)) .few)
-
-loop-less : tie.Need-loop-less Inv-loop μ-loop
-loop-less c = search needs
 
 loop-again : tie.Need-loop-again Inv-loop μ-loop
 loop-again c =
-    let at = turn (c .before .before) in
+    let at = pass (c .before .before) in
     let from = from-head (head at) in
     let more = at .before .loop-test .taken in
     let corrects = c .before .before .before .before .correct .ensures in
     ⊎-elim
     (λ w.
-    turned-closed (begun from) (turned at) (other at) corrects (c .before .same-sums .ensures) more (w .0 .taken) (ap₂ stateOf (w .2) (w .1)) (w .3) (w .4))
+    passed-closed (begun from) (passed at) (other at) corrects (c .before .same-sums .ensures) more (w .0 .taken) (ap₂ stateOf (w .2) (w .1)) (w .3) (w .4))
     (λ w.
     let on =
-    held-on (record {
+    follows-on (record {
       before = record { before = record { before = record { before = c .before; if2 = w .0 }; top-power = w .1 }; struct-known2 = w .2 };
       if3 = w .3;
     }) in
-    rw (w .8, w .9, w .10, w .11) (turned-going (begun from) (held-turned (begun from) (omega (arith, more)) on (w .7 .ensures))))
+    rw (w .8, w .9, w .10, w .11) (passed-going (begun from) (follows-passed (begun from) (omega (arith, more)) on (w .7 .ensures))))
     (c .if2 .came)
 
 -- ---- after the loop
 
 vector-of-requires : tie.Need-vector-of-requires Inv-loop μ-loop
 vector-of-requires c κs = search needs
-
-vector-of-requires-2 : tie.Need-vector-of-requires-2 Inv-loop μ-loop
-vector-of-requires-2 c κs = search needs
 
 stage-of-requires : tie.Need-stage-of-requires Inv-loop μ-loop
 stage-of-requires c κs = c .before .before .before .before .before .loop .inv .known
@@ -260,8 +245,8 @@ chunk-spec =
     (tie.spec
     Inv-loop
     μ-loop
-    row-count-requires
-    lane-values-requires
+    (λ c κs. search needs)
+    (λ c κs. search needs)
     store-ones-requires
     store-keys-requires
     sums-of-requires
@@ -276,13 +261,13 @@ chunk-spec =
     element-write-counts
     correct-requires
     same-sums-requires
-    top-power-requires
+    (λ c κs. search needs)
     clear-requires
     lowest-requires-2
     add-made
-    loop-less
+    (λ c. search needs)
     loop-again
     vector-of-requires
-    vector-of-requires-2
+    (λ c κs. search needs)
     stage-of-requires
     returns)

@@ -7,9 +7,7 @@ use Rattle.cell.specs.Answers.{status}
 use Rattle.cell.specs.Refusal.{Rule, Answered, answered, checked}
 use Rattle.cell.proofs.RefusalLaws.{rule-broken, rule-kept}
 use Rattle.cell.proofs.TableChecked.{table-refused, table-passed, table-inputs}
-use Rattle.state.specs.Sound as state
 use Rattle.job.specs.declared.job.Job.{Job}
-use Rattle.job.specs.Sound.{isSound}
 use Rattle.job.specs.Calls.{unsound, jobChecked}
 use Rattle.job.proofs.job.job_status.Statement.{statement}
 use Rattle.job.proofs.job.job_status.Tie as tie
@@ -20,12 +18,6 @@ others j = unsound j ∷ []
 abbrev done : Answered (Unit {0})
 done = answered tt
 
-table-status-requires : tie.Need-table-status-requires
-table-status-requires c κs = search needs
-
-enum-known-status : tie.Need-enum-known-status
-enum-known-status c = search needs
-
 returns : tie.Need-returns
 returns c =
     let at = c .before .before .before in
@@ -35,13 +27,9 @@ returns c =
 enum-told : tie.Need-enum-told
 enum-told c = search needs
 
-state-of-requires : tie.Need-state-of-requires
-state-of-requires c κs = search needs
-
 is-sound-requires : tie.Need-is-sound-requires
 is-sound-requires c κs =
-    let told = c .before in
-    table-inputs _ (told .before .before .table-status .ensures) (told .enum-told .given .1)
+    table-inputs _ (c .before .before .table-status .ensures) (c .enum-told .given .1)
 
 -- past the table's rules
 abbrev job : tie.After-enum-told → Job
@@ -50,26 +38,20 @@ job c = c .before .before .before .before .args .job
 passed : (c : tie.After-enum-told) {next : Answered (Unit {0})} → next ≡ checked (others (job c)) done → status next ≡ status (jobChecked (job c))
 passed c e = ap status (e ∙ table-passed (job c .table) (c .before .before .table-status .ensures) (others (job c)) done (c .enum-told .given .1))
 
--- the test of the state is the test of the job
-sound-is : (c : tie.After-is-sound) → c .is-sound .result ≡ isSound (job (c .before .before))
-sound-is c =
-    let t = job (c .before .before) .table in c .is-sound .ensures ∙ ap (state.isSound t) (c .before .state-of .ensures)
-
 returns-2 : tie.Need-returns-2
-returns-2 c = passed (c .before .before .before) (rule-broken 9 [] done (ap not (sym (sound-is (c .before))) ∙ c .if1 .taken))
+returns-2 c = passed (c .before .before) (rule-broken 9 [] done (ap not (sym (c .before .is-sound .ensures)) ∙ c .if1 .taken))
 
 returns-3 : tie.Need-returns-3
-returns-3 c = passed (c .before .before .before) (rule-kept 9 [] done (ap not (sym (sound-is (c .before))) ∙ c .if1 .left))
+returns-3 c = passed (c .before .before) (rule-kept 9 [] done (ap not (sym (c .before .is-sound .ensures)) ∙ c .if1 .left))
 
 pub job-status-spec : {M : Type 1} → statement M
 job-status-spec =
     tie.close
     (tie.spec
-    table-status-requires
-    enum-known-status
+    (λ c κs. search needs)
+    (λ c. search needs)
     returns
     enum-told
-    state-of-requires
     is-sound-requires
     returns-2
     returns-3)

@@ -40,12 +40,6 @@ size-of-requires c κs = rw (threshold-read c) (range (c .before .before) .thres
 loop-holds : tie.Need-loop-holds Inv-loop μ-loop
 loop-holds c = (omega arith, omega (arith, sum-below-zero (sizeAt (c .before .before .before .args .v .a))))
 
-mul-size-of : tie.Need-mul-size-of Inv-loop μ-loop
-mul-size-of c = search needs
-
-array-copy-out-size-of : tie.Need-array-copy-out-size-of Inv-loop μ-loop
-array-copy-out-size-of c = search needs
-
 abbrev start : tie.After-size-of-arg Inv-loop μ-loop → tie.Start Inv-loop μ-loop
 start c = c .before .before .before .before .before .before
 
@@ -57,7 +51,7 @@ weight-read c = toZ-ofZ (record { sfits = c .size-of-arg .given })
 size-of-requires-2 : tie.Need-size-of-requires-2 Inv-loop μ-loop
 size-of-requires-2 c κs = rw (weight-read c) (in-range-at (range (start c)) (c .before .before .loop .place) (omega arith))
 
--- the size of b, and of the weight of a turn
+-- the size of b, and of the weight of a pass
 first-size : (c : tie.After-size-of Inv-loop μ-loop) → c .size-of .result ≡ natAbs (c .before .before .before .args .v .b)
 first-size c = c .size-of .ensures ∙ ap natAbs (threshold-read (c .before))
 
@@ -83,12 +77,6 @@ add-sum c =
     let most = sum-below-most (head .loop .place + 1) weightLimit size (λ place h. in-range-at f place (omega arith)) in
     record { fits = omega (arith, next-sum c, first-size (head .before), f .threshold) }
 
-add-place : tie.Need-add-place Inv-loop μ-loop
-add-place c = search needs
-
-loop-less : tie.Need-loop-less Inv-loop μ-loop
-loop-less c = search needs
-
 loop-again : tie.Need-loop-again Inv-loop μ-loop
 loop-again c = (omega arith, next-sum c)
 
@@ -109,11 +97,11 @@ is-small-spec =
     μ-loop
     size-of-requires
     loop-holds
-    mul-size-of
-    array-copy-out-size-of
+    (λ c. search needs)
+    (λ c. search needs)
     size-of-requires-2
     add-sum
-    add-place
-    loop-less
+    (λ c. search needs)
+    (λ c. search needs)
     loop-again
     returns)

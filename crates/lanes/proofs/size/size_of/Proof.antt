@@ -49,8 +49,5 @@ cast-result-2 c =
 returns : tie.Need-returns
 returns c = rw (toZ-ofZ (sub-result c), read (c .before)) (negation-size (c .before .args .x))
 
-returns-2 : tie.Need-returns-2
-returns-2 c = search needs
-
 pub size-of-spec : {M : Type 1} → statement M
-size-of-spec = tie.close (tie.spec sub-result cast-result cast-result-2 returns returns-2)
+size-of-spec = tie.close (tie.spec sub-result cast-result cast-result-2 returns (λ c. search needs))

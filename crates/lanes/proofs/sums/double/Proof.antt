@@ -27,22 +27,13 @@ abbrev μ-loop : tie.MeasureT-loop
 loop-holds : tie.Need-loop-holds Inv-loop μ-loop
 loop-holds c = (omega arith, doubled-none _ _ _ _)
 
-add-more : tie.Need-add-more Inv-loop μ-loop
-add-more c = search needs
-
-mul-more : tie.Need-mul-more Inv-loop μ-loop
-mul-more c = search needs
-
-element-copy-out-more : tie.Need-element-copy-out-more Inv-loop μ-loop
-element-copy-out-more c = search needs
-
 abbrev start : tie.After-more Inv-loop μ-loop → tie.Start Inv-loop μ-loop
 start c = c .before .before .before
 
 abbrev at : tie.After-more Inv-loop μ-loop → ℕ
 at c = c .before .before .loop .at
 
--- the sum of a turn, as it came
+-- the sum of a pass, as it came
 abbrev old : tie.After-more Inv-loop μ-loop → ℤ
 old c = getD (start c .args .sums .now) (start c .args .from + at c) (pos 0)
 
@@ -60,24 +51,6 @@ add-more-2 c =
     let sum = old c +ℤ start c .args .weight in
     rw (sum-read c, weight-read (start c))
     (size-fits (omega (arith, natAbs-parts sum, start c .pre .1 (at c) (c .before .loop-test .taken))))
-
-add-more-3 : tie.Need-add-more-3 Inv-loop μ-loop
-add-more-3 c = search needs
-
-add-more-4 : tie.Need-add-more-4 Inv-loop μ-loop
-add-more-4 c = search needs
-
-mul-more-2 : tie.Need-mul-more-2 Inv-loop μ-loop
-mul-more-2 c = search needs
-
-element-set-from-more : tie.Need-element-set-from-more Inv-loop μ-loop
-element-set-from-more c = search needs
-
-add-at : tie.Need-add-at Inv-loop μ-loop
-add-at c = search needs
-
-loop-less : tie.Need-loop-less Inv-loop μ-loop
-loop-less c = search needs
 
 loop-again : tie.Need-loop-again Inv-loop μ-loop
 loop-again c =
@@ -100,15 +73,15 @@ double-spec =
     Inv-loop
     μ-loop
     loop-holds
-    add-more
-    mul-more
-    element-copy-out-more
+    (λ c. search needs)
+    (λ c. search needs)
+    (λ c. search needs)
     add-more-2
-    add-more-3
-    add-more-4
-    mul-more-2
-    element-set-from-more
-    add-at
-    loop-less
+    (λ c. search needs)
+    (λ c. search needs)
+    (λ c. search needs)
+    (λ c. search needs)
+    (λ c. search needs)
+    (λ c. search needs)
     loop-again
     returns)

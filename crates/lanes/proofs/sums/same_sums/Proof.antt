@@ -37,17 +37,8 @@ apart at differ v s x-is y-is =
     let equal : v ≡ s → ⊥ = λ e. differ (ap bits x-is ∙ ap (λ (u : Vector). bits (vectorSums u)) e ∙ sym (ap bits y-is)) in
     sym (not-passed (sameVector v s) (λ e. equal (same-vector-correct v s .0 e)))
 
-element-copy-out-if1 : tie.Need-element-copy-out-if1 Inv-loop μ-loop
-element-copy-out-if1 c = search needs
-
-element-copy-out-if1-2 : tie.Need-element-copy-out-if1-2 Inv-loop μ-loop
-element-copy-out-if1-2 c = search needs
-
 returns : tie.Need-returns Inv-loop μ-loop
 returns c k v s long long-s range range-s = apart 31 (c .if1 .taken) v s
-
-block-count-requires : tie.Need-block-count-requires Inv-loop μ-loop
-block-count-requires c κs = search needs
 
 -- there are at most eight blocks
 blocks-le : (c : tie.After-block-count Inv-loop μ-loop) → c .block-count .result ≤ 8
@@ -84,9 +75,6 @@ returns-2 c k v s long long-s range range-s = apart (c .before .before .before .
 add-at : tie.Need-add-at Inv-loop μ-loop
 add-at c = record { fits = omega (arith, in-sums (c .before .before .before)) }
 
-loop-less : tie.Need-loop-less Inv-loop μ-loop
-loop-less c = search needs
-
 -- integers of 16 bits are equal where their bits are
 same-bits : {x y : ℤ} → SFits w16 x → SFits w16 y → ofZ w16 x ≡ ofZ w16 y → x ≡ y
 same-bits f g e = sym (toZ-ofZ f) ∙ ap (toZ w16) e ∙ toZ-ofZ g
@@ -116,10 +104,10 @@ same-sums-spec =
     (tie.spec
     Inv-loop
     μ-loop
-    element-copy-out-if1
-    element-copy-out-if1-2
+    (λ c. search needs)
+    (λ c. search needs)
     returns
-    block-count-requires
+    (λ c κs. search needs)
     add-count
     loop-holds
     mul-if2
@@ -128,6 +116,6 @@ same-sums-spec =
     element-copy-out-if2-2
     returns-2
     add-at
-    loop-less
+    (λ c. search needs)
     loop-again
     returns-3)

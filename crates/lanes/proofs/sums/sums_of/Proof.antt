@@ -15,7 +15,8 @@ use Rattle.numbers.proofs.Int.{natAbs-parts, parts-sub, one-part}
 use Rattle.numbers.proofs.Widths.{size-fits}
 use Rattle.types.specs.declared.vector.Vector.{Vector}
 use Rattle.machine.proofs.DistanceLaws.{distance-zero}
-use Rattle.lanes.proofs.SumsLaws.{shifted-one, threshold-size, weight-size}
+use Rattle.machine.proofs.HighestLaws.{one-shifted}
+use Rattle.lanes.proofs.SumsLaws.{threshold-size, weight-size}
 use Rattle.lanes.proofs.WeightLaws.{less-twice}
 use Rattle.lanes.proofs.DoublingLaws.{SumsTo, sums-to-none, sums-to-low, sums-to-high, sums-to-all, low-made, high-made}
 use Rattle.lanes.proofs.sums.sums_of.Statement.{statement}
@@ -57,9 +58,6 @@ sub-first c = rw (threshold-read c) (size-fits (omega (arith, natAbs-parts (pos 
 cast-first : tie.Need-cast-first Inv-loop μ-loop
 cast-first c = rw (threshold-read c) (cast-fits (pos 0 -ℤ vector c .b) (first-size c))
 
-array-set-from-sums : tie.Need-array-set-from-sums Inv-loop μ-loop
-array-set-from-sums c = search needs
-
 -- the distance of row 0, as the code keeps it
 abbrev first : tie.After-struct-told Inv-loop μ-loop → ℤ
 first c = toZ w16 (ofZ w16 (toZ w32 (ofZ w32 (pos 0 -ℤ toZ w32 (ofZ w32 (vector c .b))))))
@@ -78,11 +76,11 @@ loop-holds c = (
   sums-to-none (vector c .a) (pos 0 -ℤ first c) _ refl (sym (distance-zero (vector c .a) (pos 0 -ℤ first c) ∙ less-twice (first c))) refl,
 )
 
--- ---- a turn
+-- ---- a pass
 
--- the sums at the start of a turn are those of the vector
-held : (c : tie.At-loop Inv-loop μ-loop) → SumsTo (vector (c .before) .a) (vector (c .before) .b) (c .loop .place) (c .loop .sums)
-held c = rw (threshold-is (c .before)) at (c .loop .inv .1)
+-- the sums at the start of a pass are those of the vector
+sums-so-far : (c : tie.At-loop Inv-loop μ-loop) → SumsTo (vector (c .before) .a) (vector (c .before) .b) (c .loop .place) (c .loop .sums)
+sums-so-far c = rw (threshold-is (c .before)) at (c .loop .inv .1)
 
 -- the weight of the turn, and its size
 abbrev weight : tie.At-loop Inv-loop μ-loop → ℤ
@@ -100,20 +98,11 @@ weight-read c = cast-read (weight (c .before)) (small c)
 
 -- ---- a low input
 
-shl-double : tie.Need-shl-double Inv-loop μ-loop
-shl-double c = search needs
-
-mul-double : tie.Need-mul-double Inv-loop μ-loop
-mul-double c = search needs
-
-array-copy-out-double : tie.Need-array-copy-out-double Inv-loop μ-loop
-array-copy-out-double c = search needs
-
 cast-double : tie.Need-cast-double Inv-loop μ-loop
 cast-double c = let turn = c .before .before .before in cast-fits (weight (turn .before)) (small turn)
 
 low-shift : (c : tie.Then1 Inv-loop μ-loop) → let place = c .before .before .loop .place in 1 * 2 ^ place % 2 ^ 64 ≡ 2 ^ place
-low-shift c = shifted-one (c .before .before .loop .place) (omega arith)
+low-shift c = one-shifted (c .before .before .loop .place) (omega arith)
 
 double-requires : tie.Need-double-requires Inv-loop μ-loop
 double-requires c κs =
@@ -122,8 +111,8 @@ double-requires c κs =
     let pre = head .before .before .before .before .pre in
     let half : 2 ^ head .loop .place ≤ 16 = pow-mono {j = 4} (omega arith) in
     rw (low-shift branch, weight-read (branch .before)) (
-      (held head .size, omega arith),
-      λ at l. omega (arith, low-made _ 32000 (pre .0) (pre .1) _ _ at (branch .if1 .taken) (held head) l),
+      (sums-so-far head .size, omega arith),
+      λ at l. omega (arith, low-made _ 32000 (pre .0) (pre .1) _ _ at (branch .if1 .taken) (sums-so-far head) l),
     )
 
 low-next : (c : tie.After-double Inv-loop μ-loop)
@@ -134,24 +123,15 @@ low-next c =
     let head = branch .before .before in
     let v = vector (head .before) in
     let made = rw (low-shift branch, weight-read (branch .before)) at (c .double .ensures) in
-    rw (threshold-is (head .before)) (sums-to-low _ _ _ _ _ (branch .if1 .taken) made (held head))
+    rw (threshold-is (head .before)) (sums-to-low _ _ _ _ _ (branch .if1 .taken) made (sums-so-far head))
 
 -- ---- a higher input
-
-shl-double-2 : tie.Need-shl-double-2 Inv-loop μ-loop
-shl-double-2 c = search needs
-
-mul-double-2 : tie.Need-mul-double-2 Inv-loop μ-loop
-mul-double-2 c = search needs
-
-array-copy-out-double-2 : tie.Need-array-copy-out-double-2 Inv-loop μ-loop
-array-copy-out-double-2 c = search needs
 
 cast-double-2 : tie.Need-cast-double-2 Inv-loop μ-loop
 cast-double-2 c = let turn = c .before .before .before in cast-fits (weight (turn .before)) (small turn)
 
 high-shift : (c : tie.Else1 Inv-loop μ-loop) → let k = c .before .before .loop .place - 5 in 1 * 2 ^ k % 2 ^ 64 ≡ 2 ^ k
-high-shift c = shifted-one (c .before .before .loop .place - 5) (omega arith)
+high-shift c = one-shifted (c .before .before .loop .place - 5) (omega arith)
 
 double-requires-2 : tie.Need-double-requires-2 Inv-loop μ-loop
 double-requires-2 c κs =
@@ -160,9 +140,9 @@ double-requires-2 c κs =
     let pre = head .before .before .before .before .pre in
     let half : 2 ^ (head .loop .place - 5) ≤ 4 = pow-mono {j = 2} (omega arith) in
     rw (high-shift branch, weight-read (branch .before)) (
-      (held head .size, omega arith),
+      (sums-so-far head .size, omega arith),
       λ at l.
-          omega (arith, high-made _ 32000 (pre .0) (pre .1) _ _ at (branch .if1 .left) (branch .before .loop-test .taken) (held head) l),
+          omega (arith, high-made _ 32000 (pre .0) (pre .1) _ _ at (branch .if1 .left) (branch .before .loop-test .taken) (sums-so-far head) l),
     )
 
 high-next : (c : tie.After-double2 Inv-loop μ-loop)
@@ -173,15 +153,9 @@ high-next c =
     let head = branch .before .before in
     let v = vector (head .before) in
     let made = rw (high-shift branch, weight-read (branch .before)) at (c .double2 .ensures) in
-    rw (threshold-is (head .before)) (sums-to-high _ _ _ _ _ (branch .if1 .left) made (held head))
+    rw (threshold-is (head .before)) (sums-to-high _ _ _ _ _ (branch .if1 .left) made (sums-so-far head))
 
 -- ---- the loop
-
-add-place : tie.Need-add-place Inv-loop μ-loop
-add-place c = search needs
-
-loop-less : tie.Need-loop-less Inv-loop μ-loop
-loop-less c = search needs
 
 loop-again : tie.Need-loop-again Inv-loop μ-loop
 loop-again c = (
@@ -200,7 +174,7 @@ returns : tie.Need-returns Inv-loop μ-loop
 returns c =
     let head = c .before in
     let last : head .loop .place ≡ 8 = omega arith in
-    sums-to-all (vector (head .before)) (head .loop .sums) (rw last at (held head))
+    sums-to-all (vector (head .before)) (head .loop .sums) (rw last at (sums-so-far head))
 
 pub sums-of-spec : {M : Type 1} → statement M
 sums-of-spec =
@@ -210,19 +184,19 @@ sums-of-spec =
     μ-loop
     sub-first
     cast-first
-    array-set-from-sums
+    (λ c. search needs)
     loop-holds
-    shl-double
-    mul-double
-    array-copy-out-double
+    (λ c. search needs)
+    (λ c. search needs)
+    (λ c. search needs)
     cast-double
     double-requires
-    shl-double-2
-    mul-double-2
-    array-copy-out-double-2
+    (λ c. search needs)
+    (λ c. search needs)
+    (λ c. search needs)
     cast-double-2
     double-requires-2
-    add-place
-    loop-less
+    (λ c. search needs)
+    (λ c. search needs)
     loop-again
     returns)

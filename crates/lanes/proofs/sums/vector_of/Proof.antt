@@ -37,21 +37,6 @@ abbrev μ-loop : tie.MeasureT-loop
 loop-holds : tie.Need-loop-holds Inv-loop μ-loop
 loop-holds c = (omega arith, λ v e. filled-none (weight v) zeros)
 
-weight-at-requires : tie.Need-weight-at-requires Inv-loop μ-loop
-weight-at-requires c κs = search needs
-
-mul-a : tie.Need-mul-a Inv-loop μ-loop
-mul-a c = search needs
-
-array-set-from-a : tie.Need-array-set-from-a Inv-loop μ-loop
-array-set-from-a c = search needs
-
-add-place : tie.Need-add-place Inv-loop μ-loop
-add-place c = search needs
-
-loop-less : tie.Need-loop-less Inv-loop μ-loop
-loop-less c = search needs
-
 loop-again : tie.Need-loop-again Inv-loop μ-loop
 loop-again c =
     let head = c .before .before in (
@@ -59,9 +44,6 @@ loop-again c =
       λ v e. filled-more (weight v) zeros (head .loop .place) (omega arith) (head .loop .inv .1 v e)
           (back w32 (c .weight-at .ok) ∙ c .weight-at .ensures v e),
     )
-
-element-copy-out-t12 : tie.Need-element-copy-out-t12 Inv-loop μ-loop
-element-copy-out-t12 c = search needs
 
 abbrev first : tie.After-t12 Inv-loop μ-loop → ℤ
 first c = getD (c .before .before .before .args .sums .now) 0 (pos 0)
@@ -94,13 +76,13 @@ vector-of-spec =
     Inv-loop
     μ-loop
     loop-holds
-    weight-at-requires
-    mul-a
-    array-set-from-a
-    add-place
-    loop-less
+    (λ c κs. search needs)
+    (λ c. search needs)
+    (λ c. search needs)
+    (λ c. search needs)
+    (λ c. search needs)
     loop-again
-    element-copy-out-t12
+    (λ c. search needs)
     cast-t13
     sub-t14
     returns)

@@ -12,17 +12,14 @@ use mir.Facts.{toZ-ofZ}
 use Rattle.numbers.proofs.Int.{one-part, parts-sub}
 use Rattle.numbers.proofs.Widths.{fits-size, size-fits, wide-fits, wide-back}
 use Rattle.lanes.proofs.WeightLaws.{low-weight, high-weight}
-use Rattle.lanes.proofs.SumsLaws.{shifted-one}
+use Rattle.machine.proofs.HighestLaws.{one-shifted}
 use Rattle.lanes.proofs.sums.weight_at.Statement.{statement}
 use Rattle.lanes.proofs.sums.weight_at.Tie as tie
 
 -- ---- a low input
 
 low-power : (c : tie.Then1) → (1 * 2 ^ c .before .args .place % 2 ^ 64 ≡ 2 ^ c .before .args .place) × (2 ^ c .before .args .place ≤ 16)
-low-power c = (shifted-one (c .before .args .place) (omega arith), pow-mono {j = 4} (omega arith))
-
-shl-result : tie.Need-shl-result
-shl-result c = search needs
+low-power c = (one-shifted (c .before .args .place) (omega arith), pow-mono {j = 4} (omega arith))
 
 mul-result : tie.Need-mul-result
 mul-result c = record { fits = omega (arith, low-power c) }
@@ -36,9 +33,6 @@ alone-fits c = record { sfits = c .result .given }
 
 cast-result : tie.Need-cast-result
 cast-result c = wide-fits tt (alone-fits c)
-
-element-copy-out-result-2 : tie.Need-element-copy-out-result-2
-element-copy-out-result-2 c = search needs
 
 first-fits : (c : tie.After-result2) → SFits w16 (getD (c .before .before .before .args .sums .now) 0 (pos 0))
 first-fits c = record { sfits = c .result2 .given }
@@ -73,10 +67,7 @@ returns c v e =
 -- ---- a higher input
 
 high-power : (c : tie.Else1) → let k = c .before .args .place - 5 in (1 * 2 ^ k % 2 ^ 64 ≡ 2 ^ k) × (2 ^ k ≤ 4)
-high-power c = let k = c .before .args .place - 5 in (shifted-one k (omega arith), pow-mono {j = 2} (omega arith))
-
-shl-result-2 : tie.Need-shl-result-2
-shl-result-2 c = search needs
+high-power c = let k = c .before .args .place - 5 in (one-shifted k (omega arith), pow-mono {j = 2} (omega arith))
 
 add-result : tie.Need-add-result
 add-result c = record { fits = omega (arith, high-power c) }
@@ -104,14 +95,14 @@ pub weight-at-spec : {M : Type 1} → statement M
 weight-at-spec =
     tie.close
     (tie.spec
-    shl-result
+    (λ c. search needs)
     mul-result
     element-copy-out-result
     cast-result
-    element-copy-out-result-2
+    (λ c. search needs)
     cast-result-2
     sub-result
-    shl-result-2
+    (λ c. search needs)
     add-result
     mul-result-2
     element-copy-out-result-3

@@ -1,4 +1,4 @@
--- `list::calls_on` is safe and ends. Nothing has to hold from turn to turn; the measure is the number of calls left.
+-- `list::calls_on` is safe and ends. Nothing has to hold from pass to pass; the measure is the number of calls left.
 -- Assumes nothing.
 use Prim.Native.Nat.{_-_}
 use borrow.Author.Needs.{needs}
@@ -11,32 +11,8 @@ Inv-loop line calls₀ state₀ made₀ calls state made = Unit {0}
 abbrev μ-loop : tie.MeasureT-loop
 μ-loop line calls₀ state₀ made₀ calls state made = 300 - made
 
-none-requires : tie.Need-none-requires Inv-loop μ-loop
-none-requires c κs = search needs
-
-loop-holds : tie.Need-loop-holds Inv-loop μ-loop
-loop-holds c = search needs
-
 after-requires : tie.Need-after-requires Inv-loop μ-loop
 after-requires c κs = search needs
-
-after-requires-2 : tie.Need-after-requires-2 Inv-loop μ-loop
-after-requires-2 c κs = search needs
-
-call-requires : tie.Need-call-requires Inv-loop μ-loop
-call-requires c κs = search needs
-
-add-made : tie.Need-add-made Inv-loop μ-loop
-add-made c = search needs
-
-loop-less : tie.Need-loop-less Inv-loop μ-loop
-loop-less c = search needs
-
-loop-again : tie.Need-loop-again Inv-loop μ-loop
-loop-again c = search needs
-
-returns : tie.Need-returns Inv-loop μ-loop
-returns c = search needs
 
 pub calls-on-spec : {M : Type 1} → statement M
 calls-on-spec =
@@ -44,12 +20,12 @@ calls-on-spec =
     (tie.spec
     Inv-loop
     μ-loop
-    none-requires
-    loop-holds
+    (λ c κs. search needs)
+    (λ c. search needs)
     after-requires
-    after-requires-2
-    call-requires
-    add-made
-    loop-less
-    loop-again
-    returns)
+    (λ c κs. search needs)
+    (λ c κs. search needs)
+    (λ c. search needs)
+    (λ c. search needs)
+    (λ c. search needs)
+    (λ c. search needs))

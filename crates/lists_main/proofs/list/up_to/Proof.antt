@@ -6,17 +6,8 @@ use borrow.Author.Needs.{needs}
 use Rattle.lists_main.proofs.list.up_to.Statement.{statement}
 use Rattle.lists_main.proofs.list.up_to.Tie as tie
 
-add-result : tie.Need-add-result
-add-result c = search needs
-
-rem-result : tie.Need-rem-result
-rem-result c = search needs
-
 cast-result : tie.Need-cast-result
 cast-result c = omega (arith, mod-lt (c .args .amount) {m = c .args .most + 1} (omega arith))
 
-returns : tie.Need-returns
-returns c = search needs
-
 pub up-to-spec : {M : Type 1} → statement M
-up-to-spec = tie.close (tie.spec add-result rem-result cast-result returns)
+up-to-spec = tie.close (tie.spec (λ c. search needs) (λ c. search needs) cast-result (λ c. search needs))

@@ -17,9 +17,6 @@ returns c = rw (c .if1 .taken) (sym highest-zero)
 sub-result : tie.Need-sub-result
 sub-result c = omega (arith, leading-top 32 (c .before .args .k) (omega (arith, c .if1 .left)) (c .before .fits .k .fits) .1)
 
-shl-result : tie.Need-shl-result
-shl-result c = search needs
-
 returns-2 : tie.Need-returns-2
 returns-2 c =
     let k = c .before .args .k in
@@ -27,4 +24,4 @@ returns-2 c =
     rw (one-mul, ← is) (mod-eq-of-lt (omega (arith, highest-le k (c .before .fits .k .fits), c .before .fits .k)))
 
 pub top-power-spec : {M : Type 1} → statement M
-top-power-spec = tie.close (tie.spec returns sub-result shl-result returns-2)
+top-power-spec = tie.close (tie.spec returns sub-result (λ c. search needs) returns-2)

@@ -4,7 +4,7 @@ use mathlib.Core.Path.{_≡_, _∙_, ap}
 use Prim.Native.Nat.{ℕ, _*_, _-_, _≤_}
 use native.Mathlib.Omega.{arith}
 use borrow.Author.Needs.{needs}
-use Rattle.machine.specs.Words.{valuesBelow}
+use Rattle.machine.specs.Scan.{valuesBelow}
 use Rattle.machine.proofs.ValueLaws.{values-none}
 use Rattle.machine.proofs.scan.byte_values.Statement.{statement}
 use Rattle.machine.proofs.scan.byte_values.Tie as tie
@@ -21,12 +21,6 @@ loop-holds c = (omega arith, values-none (c .args .bytes .now))
 store-byte-requires : tie.Need-store-byte-requires Inv-loop μ-loop
 store-byte-requires c κs = (omega arith, c .before .before .loop .inv .1)
 
-add-byte : tie.Need-add-byte Inv-loop μ-loop
-add-byte c = search needs
-
-loop-less : tie.Need-loop-less Inv-loop μ-loop
-loop-less c = search needs
-
 loop-again : tie.Need-loop-again Inv-loop μ-loop
 loop-again c = (omega arith, c .store-byte .ensures)
 
@@ -40,4 +34,4 @@ returns c =
 pub byte-values-spec : {M : Type 1} → statement M
 byte-values-spec =
     tie.close
-    (tie.spec Inv-loop μ-loop loop-holds store-byte-requires add-byte loop-less loop-again returns)
+    (tie.spec Inv-loop μ-loop loop-holds store-byte-requires (λ c. search needs) (λ c. search needs) loop-again returns)

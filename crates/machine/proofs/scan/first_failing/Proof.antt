@@ -4,7 +4,7 @@ use mathlib.Core.Path.{_≡_, sym, _∙_, ap}
 use mathlib.Core.Bool.{false}
 use mathlib.Core.List.{List}
 use Prim.Native.Nat.{ℕ, suc, _+_, _*_, _-_, _%_, _^_, _≤_, _<_}
-use native.Mathlib.Nat.{one-mul, mod-eq-of-lt, lt-of-lt-of-le}
+use native.Mathlib.Nat.{lt-of-lt-of-le}
 use native.Mathlib.Numerals.{add-one}
 use native.Mathlib.Omega.{arith}
 use borrow.Author.Needs.{needs}
@@ -12,15 +12,16 @@ use lib.Pow.{pow-pos, pow-mono}
 use lib.ListN.{length, getD, length-set}
 use lib.Seq.{getD-set-same}
 use lib.IntN.{ℤ, pos, _-ℤ_}
-use mir.Syntax.{w32}
+use mir.Syntax.{w32, w64}
 use mir.Val.{toZ, ofZ, SFits}
 use mir.Facts.{toZ-ofZ}
 use Rattle.numbers.specs.Tabulate.{Holds}
 use Rattle.numbers.proofs.Int.{up, dn, natAbs-parts}
-use Rattle.numbers.proofs.Widths.{size-fits}
+use Rattle.numbers.proofs.Widths.{size-fits, wide-fits, wide-back}
 use Rattle.table.specs.Gate.{weightLimit}
-use Rattle.table.specs.Inputs.{found}
+use Rattle.table.specs.Inputs.{lowestOf}
 use Rattle.machine.specs.Scan.{rowDistance, failsAt}
+use Rattle.machine.proofs.HighestLaws.{one-shifted}
 use Rattle.machine.proofs.RangeLaws.{InRange, in-range-correct, in-range-at}
 use Rattle.machine.proofs.DistanceLaws.{distance-zero, distance-size}
 use Rattle.machine.proofs.ScanLaws.{Passed, fails-at-test, blockSearch, block-row, block-passed, scan-row, scan-nowhere}
@@ -60,19 +61,15 @@ first-away c = ap (λ (z : ℤ). pos 0 -ℤ z) (toZ-ofZ (threshold-fits c)) ∙ 
 sub-first : tie.Need-sub-first Inv-loop μ-loop
 sub-first c = rw (first-away (c .before)) (size-fits (omega (arith, away-size (c .before) 0)))
 
-element-copy-out-fails-by : tie.Need-element-copy-out-fails-by Inv-loop μ-loop
-element-copy-out-fails-by c = search needs
-
-fails-by-requires : tie.Need-fails-by-requires Inv-loop μ-loop
-fails-by-requires c κs = search needs
-
-first-read : (c : tie.After-struct-told Inv-loop μ-loop) → toZ w32 (ofZ w32 (pos 0 -ℤ toZ w32 (ofZ w32 (c .before .args .t4 .b)))) ≡ away (c .before) 0
-first-read c = toZ-ofZ (sub-first c) ∙ first-away (c .before)
+cast-fails-by : tie.Need-cast-fails-by Inv-loop μ-loop
+cast-fails-by c = wide-fits tt (sub-first (c .before))
 
 -- what is tested is whether the row fails
 first-fails : (c : tie.After-fails-by Inv-loop μ-loop)
     → let start = c .before .before .before in c .fails-by .result ≡ failsAt (start .args .values .now) (away start) 0
-first-fails c = fails-at-test _ _ _ (c .fails-by .ensures) (first-read (c .before .before))
+first-fails c =
+    let told = c .before .before in
+    fails-at-test _ _ _ (c .fails-by .ensures) (wide-back w64 tt (sub-first told) ∙ first-away (told .before))
 
 returns : tie.Need-returns Inv-loop μ-loop
 returns c =
@@ -86,12 +83,6 @@ returns c =
       before = λ r l k. absurd (omega arith);
     }
 
-element-set-from-first : tie.Need-element-set-from-first Inv-loop μ-loop
-element-set-from-first c = search needs
-
-cast-n : tie.Need-cast-n Inv-loop μ-loop
-cast-n c = search needs
-
 loop-holds : tie.Need-loop-holds Inv-loop μ-loop
 loop-holds c =
     let told = c .before .before .before .before in
@@ -100,21 +91,12 @@ loop-holds c =
       λ r l. let zero : r ≡ 0 = omega arith in rw zero (sym (first-fails (c .before .before)) ∙ c .before .if1 .left),
       λ long r l.
           let zero : r ≡ 0 = omega arith in
-          rw zero (getD-set-same room 0 _ (pos 0) (omega (arith, simp length-set at long)) ∙ first-read told),
+          rw zero (getD-set-same room 0 _ (pos 0) (omega (arith, simp length-set at long)) ∙ toZ-ofZ (sub-first told) ∙ first-away (told .before)),
     )
 
 -- ---- a block
 
-shl-search-block : tie.Need-shl-search-block Inv-loop μ-loop
-shl-search-block c = search needs
-
-mul-search-block : tie.Need-mul-search-block Inv-loop μ-loop
-mul-search-block c = search needs
-
-element-copy-out-search-block : tie.Need-element-copy-out-search-block Inv-loop μ-loop
-element-copy-out-search-block c = search needs
-
--- the function's start, and the place of a turn, as the room is lent
+-- the function's start, and the place of a pass, as the room is lent
 abbrev start : tie.After-search-block-arg Inv-loop μ-loop → tie.Start Inv-loop μ-loop
 start c = c .before .before .before .before .before .before .before .before
 
@@ -134,7 +116,7 @@ passed c = let inv = c .before .before .loop .inv in record { holds = inv .2 (ro
 
 -- the numbers of the block, as the code makes them
 half-is : (c : tie.After-search-block-arg Inv-loop μ-loop) → 1 * 2 ^ place c % 2 ^ 64 ≡ 2 ^ place c
-half-is c = rw one-mul (mod-eq-of-lt (omega (arith, pow-mono {i = place c} {j = 8} (omega arith))))
+half-is c = one-shifted (place c) (omega arith)
 
 abbrev weight : tie.After-search-block-arg Inv-loop μ-loop → ℤ
 weight c = getD (start c .args .t4 .a) (place c) (pos 0)
@@ -152,13 +134,10 @@ search-block-requires c κs =
       λ r l. rw (passed lent .holds r l) (omega (arith, natAbs-parts (away (start lent) r), away-size (start lent) r)),
     )
 
-enum-known-block : tie.Need-enum-known-block Inv-loop μ-loop
-enum-known-block c = search needs
-
 -- what the search of the block answers
 block-answer : (c : tie.After-search-block Inv-loop μ-loop)
     → let lent = c .before .before in
-    c .search-block .result ≡ found (blockSearch (start lent .args .values .now) (start lent .args .t4 .a) (place lent) (room lent))
+    c .search-block .result ≡ lowestOf (blockSearch (start lent .args .values .now) (start lent .args .t4 .a) (place lent) (room lent))
 block-answer c = rw (half-is (c .before .before), weight-is (c .before)) at (c .search-block .ensures .0)
 
 returns-2 : tie.Need-returns-2 Inv-loop μ-loop
@@ -170,15 +149,6 @@ returns-2 c =
     let answer = sym (block-answer call) ∙ c .before .block .given .1 in
     scan-row (a .table) (a .t4) (a .values .now) (pre .0) (pre .2) (2 ^ suc (place lent)) _ (pow-mono (omega arith))
     (block-row (a .t4 .a) (a .t4 .b) (a .values .now) (place lent) (room lent) (passed lent) _ answer)
-
-enum-told : tie.Need-enum-told Inv-loop μ-loop
-enum-told c = search needs
-
-add-place : tie.Need-add-place Inv-loop μ-loop
-add-place c = search needs
-
-loop-less : tie.Need-loop-less Inv-loop μ-loop
-loop-less c = search needs
 
 -- where nothing is found in the block, twice as many rows are passed
 passed-next : (c : tie.After-enum-told Inv-loop μ-loop)
@@ -215,20 +185,21 @@ first-failing-spec =
     Inv-loop
     μ-loop
     sub-first
-    element-copy-out-fails-by
-    fails-by-requires
+    (λ c. search needs)
+    cast-fails-by
+    (λ c κs. search needs)
     returns
-    element-set-from-first
-    cast-n
+    (λ c. search needs)
+    (λ c. search needs)
     loop-holds
-    shl-search-block
-    mul-search-block
-    element-copy-out-search-block
+    (λ c. search needs)
+    (λ c. search needs)
+    (λ c. search needs)
     search-block-requires
-    enum-known-block
+    (λ c. search needs)
     returns-2
-    enum-told
-    add-place
-    loop-less
+    (λ c. search needs)
+    (λ c. search needs)
+    (λ c. search needs)
     loop-again
     returns-3)

@@ -6,11 +6,8 @@ use Rattle.machine.proofs.ValueLaws.{values-all}
 use Rattle.machine.proofs.scan.row_values.Statement.{statement}
 use Rattle.machine.proofs.scan.row_values.Tie as tie
 
-byte-values-requires : tie.Need-byte-values-requires
-byte-values-requires c κs = search needs
-
 returns : tie.Need-returns
 returns c = c .byte-values .ensures ∙ values-all (c .before .before .before .args .table .bytes) 256 (omega arith)
 
 pub row-values-spec : {M : Type 1} → statement M
-row-values-spec = tie.close (tie.spec byte-values-requires returns)
+row-values-spec = tie.close (tie.spec (λ c κs. search needs) returns)

@@ -8,15 +8,15 @@ use native.Mathlib.Omega.{arith}
 use borrow.Author.Needs.{needs}
 use lib.ListN.{length, getD, length-set}
 use lib.IntN.{ℤ, pos, _+ℤ_}
-use mir.Syntax.{w32}
+use mir.Syntax.{w32, w64}
 use mir.Val.{toZ, ofZ, SFits}
 use mir.Facts.{toZ-ofZ}
 use Rattle.table.proofs.InputLaws.{row-somewhere}
 use Rattle.numbers.specs.Tests.{firstFrom}
 use Rattle.numbers.proofs.FirstLaws.{first-at, first-fails}
 use Rattle.numbers.proofs.Int.{natAbs-parts, size-add}
-use Rattle.numbers.proofs.Widths.{size-fits}
-use Rattle.table.specs.Inputs.{found}
+use Rattle.numbers.proofs.Widths.{size-fits, wide-fits, wide-back}
+use Rattle.table.specs.Inputs.{lowestOf}
 use Rattle.machine.specs.Scan.{failsAt, doubled}
 use Rattle.machine.proofs.ScanLaws.{Passed, passed-more, doubled-low, doubled-high, fails-at-test}
 use Rattle.machine.proofs.scan.search_block.Statement.{statement}
@@ -39,19 +39,10 @@ loop-holds c = (
   },
 )
 
-add-row : tie.Need-add-row Inv-loop μ-loop
-add-row c = search needs
-
-mul-distance : tie.Need-mul-distance Inv-loop μ-loop
-mul-distance c = search needs
-
-slice-copy-out-distance : tie.Need-slice-copy-out-distance Inv-loop μ-loop
-slice-copy-out-distance c = search needs
-
 abbrev start : tie.After-distance Inv-loop μ-loop → tie.Start Inv-loop μ-loop
 start c = c .before .before .before
 
--- the row of a turn, and the distance of the row `half` below it
+-- the row of a pass, and the distance of the row `half` below it
 abbrev row : tie.After-distance Inv-loop μ-loop → ℕ
 row c = start c .args .half + c .before .before .loop .at
 
@@ -76,21 +67,6 @@ add-distance c =
     rw (toZ-ofZ (below-fits c), below-kept c, toZ-ofZ (start c .fits .weight))
     (size-fits (omega (arith, size-add old weight, natAbs-parts old, natAbs-parts weight)))
 
-mul-distance-2 : tie.Need-mul-distance-2 Inv-loop μ-loop
-mul-distance-2 c = search needs
-
-slice-set-from-distance : tie.Need-slice-set-from-distance Inv-loop μ-loop
-slice-set-from-distance c = search needs
-
-element-copy-out-fails-by : tie.Need-element-copy-out-fails-by Inv-loop μ-loop
-element-copy-out-fails-by c = search needs
-
-fails-by-requires : tie.Need-fails-by-requires Inv-loop μ-loop
-fails-by-requires c κs = search needs
-
-same-length : tie.Need-same-length Inv-loop μ-loop
-same-length c = search needs
-
 -- the weight and the distances of the block, as the code reads them
 abbrev added : tie.Start Inv-loop μ-loop → ℤ
 added c = toZ w32 (ofZ w32 (c .args .weight))
@@ -98,18 +74,20 @@ added c = toZ w32 (ofZ w32 (c .args .weight))
 abbrev made : tie.Start Inv-loop μ-loop → ℕ → ℤ
 made c = doubled (c .args .half) (added c) (c .args .distances .now)
 
--- what is stored is the row's distance
-stored-made : (c : tie.After-distance Inv-loop μ-loop)
-    → toZ w32 (ofZ w32 (toZ w32 (ofZ w32 (below c)) +ℤ added (start c))) ≡ made (start c) (row c)
-stored-made c =
-    toZ-ofZ (add-distance c)
-    ∙ ap (λ (z : ℤ). z +ℤ added (start c)) (toZ-ofZ (below-fits c) ∙ below-kept c)
-    ∙ sym (doubled-high _ _ _ (c .before .before .loop .at))
+-- the sum is the row's distance
+sum-made : (c : tie.After-distance Inv-loop μ-loop) → toZ w32 (ofZ w32 (below c)) +ℤ added (start c) ≡ made (start c) (row c)
+sum-made c =
+    ap (λ (z : ℤ). z +ℤ added (start c)) (toZ-ofZ (below-fits c) ∙ below-kept c) ∙ sym (doubled-high _ _ _ (c .before .before .loop .at))
+
+cast-fails-by : tie.Need-cast-fails-by Inv-loop μ-loop
+cast-fails-by c = wide-fits tt (add-distance (c .before))
 
 -- what is tested is whether the row fails
 row-fails : (c : tie.After-fails-by Inv-loop μ-loop)
     → let turn = c .before .before in c .fails-by .result ≡ failsAt (start turn .args .values .now) (made (start turn)) (row turn)
-row-fails c = fails-at-test _ _ _ (c .fails-by .ensures) (stored-made (c .before .before))
+row-fails c =
+    let turn = c .before .before in
+    fails-at-test _ _ _ (c .fails-by .ensures) (wide-back w64 tt (add-distance turn) ∙ sum-made turn)
 
 -- the contract's distances and search
 made-is : (c : tie.Start Inv-loop μ-loop) → made c ≡ doubled (c .args .half) (c .args .weight) (c .args .distances .now)
@@ -119,8 +97,8 @@ abbrev search-by : tie.Start Inv-loop μ-loop → (ℕ → ℤ) → Option ℕ
 search-by c d = firstFrom (failsAt (c .args .values .now) d) (c .args .half) (c .args .half)
 
 search-is : (c : tie.Start Inv-loop μ-loop) {o : Option ℕ} → search-by c (made c) ≡ o
-    → found o ≡ found (search-by c (doubled (c .args .half) (c .args .weight) (c .args .distances .now)))
-search-is c e = ap found (sym e ∙ ap (search-by c) (made-is c))
+    → lowestOf o ≡ lowestOf (search-by c (doubled (c .args .half) (c .args .weight) (c .args .distances .now)))
+search-is c e = ap lowestOf (sym e ∙ ap (search-by c) (made-is c))
 
 returns : tie.Need-returns Inv-loop μ-loop
 returns c =
@@ -137,12 +115,6 @@ returns c =
       λ e. absurd (row-somewhere e),
     )
 
-add-at : tie.Need-add-at Inv-loop μ-loop
-add-at c = search needs
-
-loop-less : tie.Need-loop-less Inv-loop μ-loop
-loop-less c = search needs
-
 loop-again : tie.Need-loop-again Inv-loop μ-loop
 loop-again c =
     let turn = c .before .before .before in
@@ -153,11 +125,8 @@ loop-again c =
       simp length-set (at-head .inv .1),
       rw (← add-assoc (a .half) (at-head .at) 1)
           (passed-more (a .values .now) (made (start turn)) (a .half) (row turn) (at-head .distances) _
-          (omega arith) (stored-made turn) passes (at-head .inv .2)),
+          (omega arith) (toZ-ofZ (add-distance turn) ∙ sum-made turn) passes (at-head .inv .2)),
     )
-
-same-length-2 : tie.Need-same-length-2 Inv-loop μ-loop
-same-length-2 c = search needs
 
 returns-2 : tie.Need-returns-2 Inv-loop μ-loop
 returns-2 c =
@@ -176,18 +145,19 @@ search-block-spec =
     Inv-loop
     μ-loop
     loop-holds
-    add-row
-    mul-distance
-    slice-copy-out-distance
+    (λ c. search needs)
+    (λ c. search needs)
+    (λ c. search needs)
     add-distance
-    mul-distance-2
-    slice-set-from-distance
-    element-copy-out-fails-by
-    fails-by-requires
-    same-length
+    (λ c. search needs)
+    (λ c. search needs)
+    (λ c. search needs)
+    cast-fails-by
+    (λ c κs. search needs)
+    (λ c. search needs)
     returns
-    add-at
-    loop-less
+    (λ c. search needs)
+    (λ c. search needs)
     loop-again
-    same-length-2
+    (λ c. search needs)
     returns-2)

@@ -8,9 +8,8 @@ use native.Mathlib.Nat.{add-assoc, add-zero}
 use native.Mathlib.Omega.{arith}
 use borrow.Author.Needs.{needs}
 use lib.ListN.{set}
-use Rattle.machine.specs.Words.{valuesBelow}
-use Rattle.machine.proofs.PairLaws.{byte-bit}
-use Rattle.machine.proofs.ValueLaws.{values-more, values-skip}
+use Rattle.machine.specs.Scan.{valuesBelow}
+use Rattle.machine.proofs.ValueLaws.{byte-bit, values-more, values-skip}
 use Rattle.machine.proofs.scan.store_byte.Statement.{statement}
 use Rattle.machine.proofs.scan.store_byte.Tie as tie
 
@@ -20,36 +19,12 @@ Inv-loop values₀ bytes at byte bit₀ values bit = (bit ≤ 8) × (values ≡ 
 abbrev μ-loop : tie.MeasureT-loop
 μ-loop values₀ bytes at byte bit₀ values bit = 8 - bit
 
-element-copy-out-byte : tie.Need-element-copy-out-byte Inv-loop μ-loop
-element-copy-out-byte c = search needs
-
 returns : tie.Need-returns Inv-loop μ-loop
 returns c =
     let a = c .before .before .args in c .before .before .pre .1 ∙ values-skip (a .bytes .now) (a .at) (c .if1 .taken)
 
 loop-holds : tie.Need-loop-holds Inv-loop μ-loop
 loop-holds c = (omega arith, rw add-zero (c .before .before .pre .1))
-
-cast-values : tie.Need-cast-values Inv-loop μ-loop
-cast-values c = search needs
-
-shr-values : tie.Need-shr-values Inv-loop μ-loop
-shr-values c = search needs
-
-mul-values : tie.Need-mul-values Inv-loop μ-loop
-mul-values c = search needs
-
-add-values : tie.Need-add-values Inv-loop μ-loop
-add-values c = search needs
-
-element-write-values : tie.Need-element-write-values Inv-loop μ-loop
-element-write-values c = search needs
-
-add-bit : tie.Need-add-bit Inv-loop μ-loop
-add-bit c = search needs
-
-loop-less : tie.Need-loop-less Inv-loop μ-loop
-loop-less c = search needs
 
 loop-again : tie.Need-loop-again Inv-loop μ-loop
 loop-again c =
@@ -75,15 +50,15 @@ store-byte-spec =
     (tie.spec
     Inv-loop
     μ-loop
-    element-copy-out-byte
+    (λ c. search needs)
     returns
     loop-holds
-    cast-values
-    shr-values
-    mul-values
-    add-values
-    element-write-values
-    add-bit
-    loop-less
+    (λ c. search needs)
+    (λ c. search needs)
+    (λ c. search needs)
+    (λ c. search needs)
+    (λ c. search needs)
+    (λ c. search needs)
+    (λ c. search needs)
     loop-again
     returns-2)

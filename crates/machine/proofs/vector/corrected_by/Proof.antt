@@ -82,15 +82,6 @@ step-is c =
 loop-holds : tie.Need-loop-holds Inv-loop μ-loop
 loop-holds c = (omega arith, refl, filled-none _ _)
 
-shr-if2 : tie.Need-shr-if2 Inv-loop μ-loop
-shr-if2 c = search needs
-
-mul-next : tie.Need-mul-next Inv-loop μ-loop
-mul-next c = search needs
-
-element-copy-out-next : tie.Need-element-copy-out-next Inv-loop μ-loop
-element-copy-out-next c = search needs
-
 -- the place has a weight
 in-weights : (c : tie.In-loop Inv-loop μ-loop) → c .before .loop .place < length (c .before .before .before .args .v .a)
 in-weights c = omega (arith, eight (c .before .before .before))
@@ -128,18 +119,6 @@ kept-is c =
     let row = head .before .before .args .row in
     let none : level 2 row (head .loop .place) ≡ 0 = omega (arith, level-lt row (head .loop .place), c .if2 .left) in
     here-is (c .before) ∙ sym (weight-false _ _ _ _ (in-weights (c .before)) none)
-
-mul-t17 : tie.Need-mul-t17 Inv-loop μ-loop
-mul-t17 c = search needs
-
-element-set-from-next : tie.Need-element-set-from-next Inv-loop μ-loop
-element-set-from-next c = search needs
-
-add-place : tie.Need-add-place Inv-loop μ-loop
-add-place c = search needs
-
-loop-less : tie.Need-loop-less Inv-loop μ-loop
-loop-less c = search needs
 
 -- the vector with the corrected weight at the place is the next that the loop carries
 carried : (c : tie.In-loop Inv-loop μ-loop) {next : Vector} {x : ℤ}
@@ -193,14 +172,14 @@ corrected-by-spec =
     Inv-loop
     μ-loop
     loop-holds
-    shr-if2
-    mul-next
-    element-copy-out-next
+    (λ c. search needs)
+    (λ c. search needs)
+    (λ c. search needs)
     add-next
-    mul-t17
-    element-set-from-next
-    add-place
-    loop-less
+    (λ c. search needs)
+    (λ c. search needs)
+    (λ c. search needs)
+    (λ c. search needs)
     loop-again
     sub-next
     returns)

@@ -7,9 +7,6 @@ use Rattle.table.specs.Gate.{inRange}
 use Rattle.machine.proofs.vector.vector_within.Statement.{statement}
 use Rattle.machine.proofs.vector.vector_within.Tie as tie
 
-in-range-requires : tie.Need-in-range-requires
-in-range-requires c κs = search needs
-
 returns : tie.Need-returns
 returns c =
     let a = c .before .before .before .args in
@@ -17,4 +14,4 @@ returns c =
     c .in-range .ensures ∙ ap (inRange (a .k) (a .n) (a .v .a)) read
 
 pub vector-within-spec : {M : Type 1} → statement M
-vector-within-spec = tie.close (tie.spec in-range-requires returns)
+vector-within-spec = tie.close (tie.spec (λ c κs. search needs) returns)

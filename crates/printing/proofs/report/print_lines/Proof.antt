@@ -20,17 +20,8 @@ Inv-loop input out₀ progress₀ out progress = (length out ≡ 65536) × Bound
 abbrev μ-loop : tie.MeasureT-loop
 μ-loop input out₀ progress₀ out progress = linesLeft input progress
 
-large-buffer-requires : tie.Need-large-buffer-requires Inv-loop μ-loop
-large-buffer-requires c κs = search needs
-
-at-start-requires : tie.Need-at-start-requires Inv-loop μ-loop
-at-start-requires c κs = search needs
-
 loop-holds : tie.Need-loop-holds Inv-loop μ-loop
 loop-holds c = (sym (c .before .large-buffer .ensures), subst Bounded (sym (c .at-start .ensures)) bounded-start)
-
-is-done-requires : tie.Need-is-done-requires Inv-loop μ-loop
-is-done-requires c κs = search needs
 
 slice-aggregate-fill : tie.Need-slice-aggregate-fill Inv-loop μ-loop
 slice-aggregate-fill c = sym (c .before .before .before .loop .inv .0)
@@ -54,9 +45,6 @@ array-share-prefix-out c = room (c .before)
 slice-aggregate-write-all : tie.Need-slice-aggregate-write-all Inv-loop μ-loop
 slice-aggregate-write-all c = let call = c .before .before in sym (length-take-le (call .fill .result .length) (call .fill .last .1 .1 .0) (room call))
 
-write-all-requires : tie.Need-write-all-requires Inv-loop μ-loop
-write-all-requires c κs = search needs
-
 loop-less : tie.Need-loop-less Inv-loop μ-loop
 loop-less c =
     let call = c .before .before .before .before in
@@ -69,24 +57,21 @@ loop-less c =
 loop-again : tie.Need-loop-again Inv-loop μ-loop
 loop-again c = let call = c .before .before .before .before in (kept call, call .fill .ensures .bounded)
 
-returns : tie.Need-returns Inv-loop μ-loop
-returns c = search needs
-
 pub print-lines-spec : {M : Type 1} → statement M
 print-lines-spec =
     tie.close
     (tie.spec
     Inv-loop
     μ-loop
-    large-buffer-requires
-    at-start-requires
+    (λ c κs. search needs)
+    (λ c κs. search needs)
     loop-holds
-    is-done-requires
+    (λ c κs. search needs)
     slice-aggregate-fill
     fill-requires
     array-share-prefix-out
     slice-aggregate-write-all
-    write-all-requires
+    (λ c κs. search needs)
     loop-less
     loop-again
-    returns)
+    (λ c. search needs))

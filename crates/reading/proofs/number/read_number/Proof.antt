@@ -30,9 +30,6 @@ returns c =
     let in-loop = c .before .before in
     c .no-number .ensures ∙ sym (ap numberField (ahead-ends (in-loop .before .loop .inv) (in-loop .loop-test .taken) (c .before .if1 .taken)))
 
-shared-slice-read-byte : tie.Need-shared-slice-read-byte Inv-loop μ-loop
-shared-slice-read-byte c = search needs
-
 -- the byte that is read is below 256
 abbrev byte : tie.After-shared-slice-known2 Inv-loop μ-loop → ℕ
 byte c = getD (c .before .before .before .before .before .args .bytes .now) (c .before .before .before .loop .here) 0
@@ -42,12 +39,6 @@ byte-small c = omega (arith, c .shared-slice-known2 .given (c .before .before .b
 
 cast-byte : tie.Need-cast-byte Inv-loop μ-loop
 cast-byte c = omega (arith, byte-small c)
-
-add-here : tie.Need-add-here Inv-loop μ-loop
-add-here c = search needs
-
-no-number-requires-2 : tie.Need-no-number-requires-2 Inv-loop μ-loop
-no-number-requires-2 c κs = search needs
 
 returns-2 : tie.Need-returns-2 Inv-loop μ-loop
 returns-2 c =
@@ -109,9 +100,6 @@ loop-again c =
     let in-loop = c .before .before .before in
     ahead-next (in-loop .before .loop .inv) (in-loop .loop-test .taken) (c .before .before .if1 .left) (c .if2 .left) (byte-small (c .before))
 
-no-number-requires-3 : tie.Need-no-number-requires-3 Inv-loop μ-loop
-no-number-requires-3 c κs = search needs
-
 returns-4 : tie.Need-returns-4 Inv-loop μ-loop
 returns-4 c = c .no-number3 .ensures ∙ sym (ap numberField (ahead-over (c .before .before .loop .inv) (c .before .loop-test .left)))
 
@@ -124,10 +112,10 @@ read-number-spec =
     loop-holds
     no-number-requires
     returns
-    shared-slice-read-byte
+    (λ c. search needs)
     cast-byte
-    add-here
-    no-number-requires-2
+    (λ c. search needs)
+    (λ c κs. search needs)
     returns-2
     mul-t14
     add-t15
@@ -137,5 +125,5 @@ read-number-spec =
     mul-scale
     loop-less
     loop-again
-    no-number-requires-3
+    (λ c κs. search needs)
     returns-4)

@@ -9,12 +9,6 @@ use Rattle.table.specs.Gate.{weightLimit, within}
 use Rattle.reading.proofs.vector.is_weight.Statement.{statement}
 use Rattle.reading.proofs.vector.is_weight.Tie as tie
 
-cast-most : tie.Need-cast-most
-cast-most c = search needs
-
-sub-if1 : tie.Need-sub-if1
-sub-if1 c = search needs
-
 -- by the outcome of the first test the second decides, or not
 by-first : {y z : ℤ} {t : Bool} → y ≡ z → leZ (negℤ (pos weightLimit)) y ≡ t → (t && leZ y (pos weightLimit)) ≡ within weightLimit z
 by-first {y} e first = ap (λ (u : Bool). u && leZ y (pos weightLimit)) (sym first) ∙ ap (within weightLimit) e
@@ -26,4 +20,4 @@ returns-2 : tie.Need-returns-2
 returns-2 c = c .if1 .left ∙ by-first {t = false} (toZ-ofZ (c .before .fits .z)) (c .if1 .left)
 
 pub is-weight-spec : {M : Type 1} → statement M
-is-weight-spec = tie.close (tie.spec cast-most sub-if1 returns returns-2)
+is-weight-spec = tie.close (tie.spec (λ c. search needs) (λ c. search needs) returns returns-2)

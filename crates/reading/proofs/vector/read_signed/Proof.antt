@@ -37,12 +37,6 @@ module _ (strict : Bool) (s : List ℕ) (at : ℕ) where
   after-number : {f : Field ℕ} {z : ℤ} → numberAt s at ≡ answered f → z ≡ signedOf (f .value) → ranged strict z (f .next) ≡ signedAt strict s at
   after-number e d = rw (e, d)
 
-read-number-requires : tie.Need-read-number-requires
-read-number-requires c κs = search needs
-
-enum-known-status : tie.Need-enum-known-status
-enum-known-status c = search needs
-
 no-signed-requires : tie.Need-no-signed-requires
 no-signed-requires c κs = search needs
 
@@ -68,12 +62,6 @@ signed-of-requires c κs =
     let known = c .before .before .before in
     let a = known .before .args in
     number-written (a .bytes .now) (a .at) _ (λ i h. omega (arith, known .shared-slice-known .given i)) (number-is c) .small
-
-is-weight-requires : tie.Need-is-weight-requires
-is-weight-requires c κs = search needs
-
-no-signed-requires-2 : tie.Need-no-signed-requires-2
-no-signed-requires-2 c κs = search needs
 
 -- past the number: the integer that it stands for, and the position after it
 module _ (c : tie.After-signed-of) where
@@ -120,13 +108,13 @@ pub read-signed-spec : {M : Type 1} → statement M
 read-signed-spec =
     tie.close
     (tie.spec
-    read-number-requires
-    enum-known-status
+    (λ c κs. search needs)
+    (λ c. search needs)
     no-signed-requires
     returns
     enum-told
     signed-of-requires
-    is-weight-requires
-    no-signed-requires-2
+    (λ c κs. search needs)
+    (λ c κs. search needs)
     returns-2
     returns-3)

@@ -42,18 +42,6 @@ returns c =
 enum-told : tie.Need-enum-told Inv-loop μ-loop
 enum-told c = search needs
 
-mul-a : tie.Need-mul-a Inv-loop μ-loop
-mul-a c = search needs
-
-array-set-from-a : tie.Need-array-set-from-a Inv-loop μ-loop
-array-set-from-a c = search needs
-
-add-place : tie.Need-add-place Inv-loop μ-loop
-add-place c = search needs
-
-loop-less : tie.Need-loop-less Inv-loop μ-loop
-loop-less c = search needs
-
 loop-again : tie.Need-loop-again Inv-loop μ-loop
 loop-again c =
     let read = c .before .before .before in
@@ -61,15 +49,6 @@ loop-again c =
     let value-is : toZ w32 (ofZ w32 (read .read-signed .result .value)) ≡ read .read-signed .result .value = search needs in
     rw value-is
     (weight-read (in-loop .before .loop .inv) (in-loop .loop-test .taken) (signed-done _ (read .read-signed .ensures) (c .before .enum-told .given .1)))
-
-read-signed-requires-2 : tie.Need-read-signed-requires-2 Inv-loop μ-loop
-read-signed-requires-2 c κs = search needs
-
-enum-known-status-2 : tie.Need-enum-known-status-2 Inv-loop μ-loop
-enum-known-status-2 c = search needs
-
-no-vector-requires-2 : tie.Need-no-vector-requires-2 Inv-loop μ-loop
-no-vector-requires-2 c κs = search needs
 
 returns-2 : tie.Need-returns-2 Inv-loop μ-loop
 returns-2 c =
@@ -80,9 +59,6 @@ returns-2 c =
     (ap vectorField
     (last-refused (after .before .loop .inv) (after .loop-test .left)
     (signed-refused _ (read .read-signed2 .ensures) (c .before .before .status2 .given .1))))
-
-enum-told-2 : tie.Need-enum-told-2 Inv-loop μ-loop
-enum-told-2 c = search needs
 
 returns-3 : tie.Need-returns-3 Inv-loop μ-loop
 returns-3 c =
@@ -106,14 +82,14 @@ read-vector-spec =
     no-vector-requires
     returns
     enum-told
-    mul-a
-    array-set-from-a
-    add-place
-    loop-less
+    (λ c. search needs)
+    (λ c. search needs)
+    (λ c. search needs)
+    (λ c. search needs)
     loop-again
-    read-signed-requires-2
-    enum-known-status-2
-    no-vector-requires-2
+    (λ c κs. search needs)
+    (λ c. search needs)
+    (λ c κs. search needs)
     returns-2
-    enum-told-2
+    (λ c. search needs)
     returns-3)

@@ -13,9 +13,6 @@ use Rattle.numbers.proofs.Widths.{size-fits}
 use Rattle.reading.proofs.vector.signed_of.Statement.{statement}
 use Rattle.reading.proofs.vector.signed_of.Tie as tie
 
-cast-half : tie.Need-cast-half
-cast-half c = search needs
-
 -- half of the number
 half-is : (c : tie.Start) → toZ w32 (c .args .x / 2) ≡ pos (c .args .x / 2)
 half-is c = toZ-pos w32 (omega (arith, c .pre))
@@ -37,4 +34,4 @@ returns-2 : tie.Need-returns-2
 returns-2 c = simp (ne-eqb _ _ (c .if1 .left)) (toZ-ofZ (sub-result c) ∙ odd-is (c .before))
 
 pub signed-of-spec : {M : Type 1} → statement M
-signed-of-spec = tie.close (tie.spec cast-half sub-result returns returns-2)
+signed-of-spec = tie.close (tie.spec (λ c. search needs) sub-result returns returns-2)

@@ -16,14 +16,8 @@ use Rattle.job.proofs.JobChecked.{job-refused, job-sound, job-all-kept}
 use Rattle.records.proofs.read.is_sound.Statement.{statement}
 use Rattle.records.proofs.read.is_sound.Tie as tie
 
-job-status-requires : tie.Need-job-status-requires
-job-status-requires c κs = search needs
-
 enum-told : tie.Need-enum-told
 enum-told c = search needs
-
-enum-told-2 : tie.Need-enum-told-2
-enum-told-2 c = search needs
 
 returns : tie.Need-returns
 returns c =
@@ -46,4 +40,4 @@ returns-2 c =
     not-sound j (at .before .pre) (job-refused j (at .job-status .ensures) [] (answered tt) (c .enum-told2 .given .1)) (isSound j) refl
 
 pub is-sound-spec : {M : Type 1} → statement M
-is-sound-spec = tie.close (tie.spec job-status-requires enum-told enum-told-2 returns returns-2)
+is-sound-spec = tie.close (tie.spec (λ c κs. search needs) enum-told (λ c. search needs) returns returns-2)

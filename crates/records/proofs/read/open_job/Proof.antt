@@ -4,13 +4,10 @@ use Rattle.types.specs.declared.stage.Stage.the-variants.{Open}
 use Rattle.records.proofs.read.open_job.Statement.{statement}
 use Rattle.records.proofs.read.open_job.Tie as tie
 
-top-power-requires : tie.Need-top-power-requires
-top-power-requires c κs = search needs
-
 returns : tie.Need-returns
 returns c =
     let a = c .before .args in
-    λ i. record { table = a .table; k = a .k; v = a .v; mark = c .top-power .ensures i; s = a .s; counts = a .counts; stage = Open }
+    λ i. record { table = a .table; state = record { k = a .k; v = a .v; mark = c .top-power .ensures i; s = a .s; counts = a .counts; stage = Open } }
 
 pub open-job-spec : {M : Type 1} → statement M
-open-job-spec = tie.close (tie.spec top-power-requires returns)
+open-job-spec = tie.close (tie.spec (λ c κs. search needs) returns)

@@ -19,12 +19,12 @@ use Rattle.job.specs.declared.job.Job.{Job}
 use Rattle.job.specs.Sound.{isSound}
 use Rattle.codec.specs.Field.{Reading, field}
 use Rattle.codec.specs.RowList.{RowList, rowListAt}
-use Rattle.reading.specs.declared.rows.RowsField.{RowsField}
-use Rattle.reading.specs.Fields.{rowsField}
-use Rattle.reading.proofs.FieldFacts.{rows-refused, rows-done}
+use Rattle.rowlists.specs.declared.read.RowsField.{RowsField}
+use Rattle.rowlists.specs.Fields.{rowsField}
+use Rattle.rowlists.proofs.FieldFacts.{rows-refused, rows-done}
 use Rattle.records.specs.Record.{Record, ofJob, openJob, unsoundJob, countsAt}
 use Rattle.records.specs.Calls.{asRead, asBody}
-use Rattle.records.proofs.ReadLaws.{onward-refused, onward-read}
+use Rattle.codec.proofs.FieldLaws.{onward-refused, onward-read}
 use Rattle.records.proofs.read.read_counts.Statement.{statement}
 use Rattle.records.proofs.read.read_counts.Tie as tie
 
@@ -43,9 +43,6 @@ read-rows-requires : tie.Need-read-rows-requires
 read-rows-requires c κs =
     let few = kept-inputs (c .before .before .args .table) (c .before .before .pre) in
     omega (arith, c .rows-of .ensures, rows-le few)
-
-enum-known-status : tie.Need-enum-known-status
-enum-known-status c = search needs
 
 no-body-requires : tie.Need-no-body-requires
 no-body-requires c κs = search needs
@@ -69,9 +66,6 @@ returns c =
 enum-told : tie.Need-enum-told
 enum-told c = search needs
 
-open-job-requires : tie.Need-open-job-requires
-open-job-requires c κs = search needs
-
 -- ---- the job
 
 module _ (c : tie.After-open-job) where
@@ -91,9 +85,6 @@ module _ (c : tie.After-open-job) where
       let a = start .args in
       let at = c .before .before .before .before in
       ap asBody (e ∙ onward-read (list at) (tested (a .table) (a .k) (a .v) (a .s)) (rows-done (list at) (list-is at) (c .before .before .enum-told .given .1)))
-
-no-body-requires-2 : tie.Need-no-body-requires-2
-no-body-requires-2 c κs = search needs
 
 returns-2 : tie.Need-returns-2
 returns-2 c =
@@ -116,18 +107,12 @@ kept-is c =
     let kept : read at .kept ≡ true = not-false (read at .kept) (c .before .if1 .left) in
     ap₂ _&&_ kept (sym (sound-is c))
 
-no-body-requires-3 : tie.Need-no-body-requires-3
-no-body-requires-3 c κs = search needs
-
 returns-3 : tie.Need-returns-3
 returns-3 c =
     let tested = c .before .before in
     let at = tested .before .before .before in
     c .no-body3 .ensures
     ∙ passed at (rule-broken 9 [] (answered (field (ofJob (job at)) (read at .next))) (ap not (kept-is tested) ∙ c .before .if2 .taken))
-
-with-job-requires : tie.Need-with-job-requires
-with-job-requires c κs = search needs
 
 returns-4 : tie.Need-returns-4
 returns-4 c =
@@ -142,15 +127,15 @@ read-counts-spec =
     (tie.spec
     rows-of-requires
     read-rows-requires
-    enum-known-status
+    (λ c. search needs)
     no-body-requires
     returns
     enum-told
-    open-job-requires
-    no-body-requires-2
+    (λ c κs. search needs)
+    (λ c κs. search needs)
     returns-2
     is-sound-requires
-    no-body-requires-3
+    (λ c κs. search needs)
     returns-3
-    with-job-requires
+    (λ c κs. search needs)
     returns-4)

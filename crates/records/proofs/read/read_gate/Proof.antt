@@ -11,7 +11,7 @@ use Rattle.codec.specs.VectorField.{vectorAt}
 use Rattle.reading.proofs.FieldFacts.{vector-refused, vector-done}
 use Rattle.records.specs.Record.{Record, ofGate, vectorGate}
 use Rattle.records.specs.Calls.{asBody}
-use Rattle.records.proofs.ReadLaws.{onward-refused, onward-read}
+use Rattle.codec.proofs.FieldLaws.{onward-refused, onward-read}
 use Rattle.records.proofs.read.read_gate.Statement.{statement}
 use Rattle.records.proofs.read.read_gate.Tie as tie
 
@@ -22,15 +22,6 @@ made t v next = answered (field (ofGate t (vectorGate (t .n) v)) next)
 abbrev read : tie.After-read-vector → Reading Vector
 read c = let a = c .before .before .args in vectorAt true (a .table .n) (a .bytes .now) (a .at)
 
-read-vector-requires : tie.Need-read-vector-requires
-read-vector-requires c κs = search needs
-
-enum-known-status : tie.Need-enum-known-status
-enum-known-status c = search needs
-
-no-body-requires : tie.Need-no-body-requires
-no-body-requires c κs = search needs
-
 returns : tie.Need-returns
 returns c =
     let known = c .before .before in
@@ -40,9 +31,6 @@ returns c =
 
 enum-told : tie.Need-enum-told
 enum-told c = search needs
-
-with-gate-requires : tie.Need-with-gate-requires
-with-gate-requires c κs = search needs
 
 returns-2 : tie.Need-returns-2
 returns-2 c =
@@ -55,10 +43,10 @@ pub read-gate-spec : {M : Type 1} → statement M
 read-gate-spec =
     tie.close
     (tie.spec
-    read-vector-requires
-    enum-known-status
-    no-body-requires
+    (λ c κs. search needs)
+    (λ c. search needs)
+    (λ c κs. search needs)
     returns
     enum-told
-    with-gate-requires
+    (λ c κs. search needs)
     returns-2)

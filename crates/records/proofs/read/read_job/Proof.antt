@@ -14,7 +14,7 @@ use Rattle.codec.specs.VectorField.{vectorAt}
 use Rattle.reading.proofs.FieldFacts.{number-refused, number-done, vector-refused, vector-done}
 use Rattle.records.specs.Record.{Record, countsAt, jobAt}
 use Rattle.records.specs.Calls.{asBody}
-use Rattle.records.proofs.ReadLaws.{onward-refused, onward-read}
+use Rattle.codec.proofs.FieldLaws.{onward-refused, onward-read}
 use Rattle.records.proofs.read.read_job.Statement.{statement}
 use Rattle.records.proofs.read.read_job.Tie as tie
 
@@ -29,9 +29,6 @@ abbrev current : Table → List ℕ → ℕ → ℕ → Reading Record
 current t bytes k p = onward (vectorAt false (t .n) bytes p) (copied t bytes k)
 
 -- ---- K
-
-read-number-requires : tie.Need-read-number-requires
-read-number-requires c κs = search needs
 
 enum-known-status : tie.Need-enum-known-status
 enum-known-status c = search needs
@@ -77,12 +74,6 @@ module _ (c : tie.After-enum-told) where
 read-vector-requires : tie.Need-read-vector-requires
 read-vector-requires c κs = kept-inputs (table c) (at-number c .before .before .pre)
 
-enum-known-status-2 : tie.Need-enum-known-status-2
-enum-known-status-2 c = search needs
-
-no-body-requires-2 : tie.Need-no-body-requires-2
-no-body-requires-2 c κs = search needs
-
 returns-2 : tie.Need-returns-2
 returns-2 c =
     let known = c .before .before in
@@ -91,9 +82,6 @@ returns-2 c =
     let read = vectorAt false (table told .n) (bytes told) (p told) in
     c .no-body2 .ensures
     ∙ past-number told (onward-refused read (copied (table told) (bytes told) (k told)) (vector-refused read (at .read-vector .ensures) (known .status2 .given .1)))
-
-enum-told-2 : tie.Need-enum-told-2
-enum-told-2 c = search needs
 
 module _ (c : tie.After-enum-told2) where
   abbrev at-current : tie.After-read-vector
@@ -119,12 +107,6 @@ module _ (c : tie.After-enum-told2) where
 read-vector-requires-2 : tie.Need-read-vector-requires-2
 read-vector-requires-2 c κs = kept-inputs (table (told c)) (at-number (told c) .before .before .pre)
 
-enum-known-status-3 : tie.Need-enum-known-status-3
-enum-known-status-3 c = search needs
-
-no-body-requires-3 : tie.Need-no-body-requires-3
-no-body-requires-3 c κs = search needs
-
 module _ (c : tie.After-enum-told2) where
   abbrev last : Reading Vector
   last = vectorAt false (table (told c) .n) (bytes (told c)) (q c)
@@ -139,13 +121,7 @@ returns-3 c =
     let t = at .before in
     c .no-body3 .ensures ∙ past-current t (onward-refused (last t) (rest t) (vector-refused (last t) (at .read-vector2 .ensures) (known .status3 .given .1)))
 
-enum-told-3 : tie.Need-enum-told-3
-enum-told-3 c = search needs
-
 -- ---- the row list
-
-read-counts-requires : tie.Need-read-counts-requires
-read-counts-requires c κs = search needs
 
 returns-4 : tie.Need-returns-4
 returns-4 c =
@@ -157,20 +133,20 @@ pub read-job-spec : {M : Type 1} → statement M
 read-job-spec =
     tie.close
     (tie.spec
-    read-number-requires
+    (λ c κs. search needs)
     enum-known-status
     no-body-requires
     returns
     enum-told
     read-vector-requires
-    enum-known-status-2
-    no-body-requires-2
+    (λ c. search needs)
+    (λ c κs. search needs)
     returns-2
-    enum-told-2
+    (λ c. search needs)
     read-vector-requires-2
-    enum-known-status-3
-    no-body-requires-3
+    (λ c. search needs)
+    (λ c κs. search needs)
     returns-3
-    enum-told-3
-    read-counts-requires
+    (λ c. search needs)
+    (λ c κs. search needs)
     returns-4)

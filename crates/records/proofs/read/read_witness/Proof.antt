@@ -10,11 +10,11 @@ use Rattle.table.proofs.TableLaws.{rows-le}
 use Rattle.cell.specs.Refusal.{answered}
 use Rattle.codec.specs.Field.{Reading, field}
 use Rattle.codec.specs.RowList.{RowList, rowListAt}
-use Rattle.reading.specs.Fields.{rowsField}
-use Rattle.reading.proofs.FieldFacts.{rows-refused, rows-done}
+use Rattle.rowlists.specs.Fields.{rowsField}
+use Rattle.rowlists.proofs.FieldFacts.{rows-refused, rows-done}
 use Rattle.records.specs.Record.{Record, ofWitness}
 use Rattle.records.specs.Calls.{asBody}
-use Rattle.records.proofs.ReadLaws.{onward-refused, onward-read}
+use Rattle.codec.proofs.FieldLaws.{onward-refused, onward-read}
 use Rattle.records.proofs.read.read_witness.Statement.{statement}
 use Rattle.records.proofs.read.read_witness.Tie as tie
 
@@ -22,17 +22,8 @@ use Rattle.records.proofs.read.read_witness.Tie as tie
 abbrev made : Table → RowList → ℕ → Reading Record
 made t list next = answered (field (ofWitness t (record { counts = list .counts })) next)
 
-rows-of-requires : tie.Need-rows-of-requires
-rows-of-requires c κs = search needs
-
 read-rows-requires : tie.Need-read-rows-requires
 read-rows-requires c κs = omega (arith, c .rows-of .ensures, rows-le (c .before .before .pre))
-
-enum-known-status : tie.Need-enum-known-status
-enum-known-status c = search needs
-
-no-body-requires : tie.Need-no-body-requires
-no-body-requires c κs = search needs
 
 -- the row list, for the table's rows
 abbrev table : tie.After-read-rows → Table
@@ -55,9 +46,6 @@ returns c =
 enum-told : tie.Need-enum-told
 enum-told c = search needs
 
-with-witness-requires : tie.Need-with-witness-requires
-with-witness-requires c κs = search needs
-
 returns-2 : tie.Need-returns-2
 returns-2 c =
     let told = c .before .before in
@@ -69,11 +57,11 @@ pub read-witness-spec : {M : Type 1} → statement M
 read-witness-spec =
     tie.close
     (tie.spec
-    rows-of-requires
+    (λ c κs. search needs)
     read-rows-requires
-    enum-known-status
-    no-body-requires
+    (λ c. search needs)
+    (λ c κs. search needs)
     returns
     enum-told
-    with-witness-requires
+    (λ c κs. search needs)
     returns-2)

@@ -5,9 +5,6 @@ use Rattle.table.proofs.TableLaws.{rows-le}
 use Rattle.records.proofs.read.rows_of.Statement.{statement}
 use Rattle.records.proofs.read.rows_of.Tie as tie
 
-row-count-requires : tie.Need-row-count-requires
-row-count-requires c κs = search needs
-
 cast-result : tie.Need-cast-result
 cast-result c = omega (arith, rows-le (c .before .pre))
 
@@ -15,4 +12,4 @@ returns : tie.Need-returns
 returns c = c .row-count .ensures
 
 pub rows-of-spec : {M : Type 1} → statement M
-rows-of-spec = tie.close (tie.spec row-count-requires cast-result returns)
+rows-of-spec = tie.close (tie.spec (λ c κs. search needs) cast-result returns)

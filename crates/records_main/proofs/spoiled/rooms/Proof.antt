@@ -1,4 +1,4 @@
--- `spoiled::rooms` is safe and ends. Nothing has to hold from turn to turn; the measure is the number of buffers left.
+-- `spoiled::rooms` is safe and ends. Nothing has to hold from pass to pass; the measure is the number of buffers left.
 -- Assumes nothing.
 use Prim.Native.Nat.{_+_, _-_}
 use borrow.Author.Needs.{needs}
@@ -11,53 +11,20 @@ Inv-loop original bytes last tally₀ room₀ tally room = Unit {0}
 abbrev μ-loop : tie.MeasureT-loop
 μ-loop original bytes last tally₀ room₀ tally room = last + 1 - room
 
-least-requires : tie.Need-least-requires Inv-loop μ-loop
-least-requires c κs = search needs
-
-add-last : tie.Need-add-last Inv-loop μ-loop
-add-last c = search needs
-
-none-requires : tie.Need-none-requires Inv-loop μ-loop
-none-requires c κs = search needs
-
-loop-holds : tie.Need-loop-holds Inv-loop μ-loop
-loop-holds c = search needs
-
-written-requires : tie.Need-written-requires Inv-loop μ-loop
-written-requires c κs = search needs
-
-is-right-requires : tie.Need-is-right-requires Inv-loop μ-loop
-is-right-requires c κs = search needs
-
-count-requires : tie.Need-count-requires Inv-loop μ-loop
-count-requires c κs = search needs
-
-add-room : tie.Need-add-room Inv-loop μ-loop
-add-room c = search needs
-
-loop-less : tie.Need-loop-less Inv-loop μ-loop
-loop-less c = search needs
-
-loop-again : tie.Need-loop-again Inv-loop μ-loop
-loop-again c = search needs
-
-returns : tie.Need-returns Inv-loop μ-loop
-returns c = search needs
-
 pub rooms-spec : {M : Type 1} → statement M
 rooms-spec =
     tie.close
     (tie.spec
     Inv-loop
     μ-loop
-    least-requires
-    add-last
-    none-requires
-    loop-holds
-    written-requires
-    is-right-requires
-    count-requires
-    add-room
-    loop-less
-    loop-again
-    returns)
+    (λ c κs. search needs)
+    (λ c. search needs)
+    (λ c κs. search needs)
+    (λ c. search needs)
+    (λ c κs. search needs)
+    (λ c κs. search needs)
+    (λ c κs. search needs)
+    (λ c. search needs)
+    (λ c. search needs)
+    (λ c. search needs)
+    (λ c. search needs))

@@ -5,9 +5,9 @@ use Prim.Native.Nat.{ℕ}
 use native.Mathlib.Omega.{arith}
 use denote.Ref.{now}
 use borrow.Author.Needs.{needs}
-use Rattle.reporting.specs.Text.{decimal, spaced, lineFeed}
+use Rattle.text.specs.Text.{decimal, spaced, lineFeed}
 use Rattle.reporting.specs.Lines.{meanText, lastLine}
-use Rattle.reporting.proofs.LineWriting.{Left, all-left, next-room, next-left, line-done}
+use Rattle.text.proofs.FieldWriting.{Left, all-left, next-room, next-left, line-done}
 use Rattle.reporting.proofs.RoomLaws.{last-room}
 use Rattle.reporting.proofs.line.last_line.Statement.{statement}
 use Rattle.reporting.proofs.line.last_line.Tie as tie
@@ -125,9 +125,6 @@ returns c =
     let put = end .before .before .before .before in
     line-done (at-end put) (end .put-byte2 .ensures) (last-room (start-of4 (put .before .before .before .before) .args .tally))
 
-same-length : tie.Need-same-length
-same-length c = search needs
-
 pub last-line-spec : {M : Type 1} → statement M
 last-line-spec =
     tie.close
@@ -139,5 +136,5 @@ last-line-spec =
     put-byte-requires
     put-mean-requires
     put-byte-requires-2
-    same-length
+    (λ c. search needs)
     returns)

@@ -6,9 +6,9 @@ use native.Mathlib.Omega.{arith}
 use lib.ListN.{length}
 use denote.Ref.{now}
 use borrow.Author.Needs.{needs}
-use Rattle.reporting.specs.Text.{decimal}
+use Rattle.text.specs.Text.{decimal}
 use Rattle.reporting.specs.Lines.{meanTenths, meanText}
-use Rattle.reporting.proofs.LineWriting.{Left, all-left, next-room, next-left}
+use Rattle.text.proofs.FieldWriting.{Left, all-left, next-room, next-left}
 use Rattle.reporting.proofs.line.put_mean.Statement.{statement}
 use Rattle.reporting.proofs.line.put_mean.Tie as tie
 
@@ -19,25 +19,10 @@ put-byte-requires c κs =
     let s = c .before .before .before in
     omega (arith, s .pre .2, ap (λ (gates : ℕ). length (meanText gates (s .args .sum))) (c .before .if1 .taken))
 
-same-length : tie.Need-same-length
-same-length c = search needs
-
 returns : tie.Need-returns
 returns c = let put = c .before .before in rw (put .before .before .if1 .taken) (put .put-byte .ensures)
 
 -- ---- a mean
-
-mul-tenths : tie.Need-mul-tenths
-mul-tenths c = search needs
-
-add-tenths : tie.Need-add-tenths
-add-tenths c = search needs
-
-mul-tenths-2 : tie.Need-mul-tenths-2
-mul-tenths-2 c = search needs
-
-div-tenths : tie.Need-div-tenths
-div-tenths c = search needs
 
 -- the fields
 abbrev whole : tie.Start → List ℕ
@@ -92,22 +77,19 @@ returns-2 c =
     let put = c .before .before in
     at-tenths (put .before .before .before .before) .done (put .put-decimal2 .ensures)
 
-same-length-2 : tie.Need-same-length-2
-same-length-2 c = search needs
-
 pub put-mean-spec : {M : Type 1} → statement M
 put-mean-spec =
     tie.close
     (tie.spec
     put-byte-requires
-    same-length
+    (λ c. search needs)
     returns
-    mul-tenths
-    add-tenths
-    mul-tenths-2
-    div-tenths
+    (λ c. search needs)
+    (λ c. search needs)
+    (λ c. search needs)
+    (λ c. search needs)
     put-decimal-requires
     put-byte-requires-2
     put-decimal-requires-2
-    same-length-2
+    (λ c. search needs)
     returns-2)

@@ -8,26 +8,26 @@ use mir.Val.{Fits}
 use denote.Ref.{now}
 use borrow.Author.Needs.{needs}
 use Rattle.numbers.proofs.Widths.{signed-fits-field}
-use Rattle.reporting.specs.Text.{decimal, spaced, lineFeed}
+use Rattle.text.specs.Text.{decimal, spaced, lineFeed}
 use Rattle.reporting.specs.Lines.{lineRoom, verdictText, recordLine}
-use Rattle.reporting.proofs.LineWriting.{Left, all-left, next-room, next-left, line-done}
-use Rattle.reporting.proofs.RecordRoom.{Held, record-room}
+use Rattle.text.proofs.FieldWriting.{Left, all-left, next-room, next-left, line-done}
+use Rattle.reporting.proofs.RecordRoom.{JobFits, record-room}
 use Rattle.reporting.proofs.line.record_line.Statement.{statement}
 use Rattle.reporting.proofs.line.record_line.Tie as tie
 
 -- the numbers of the job fit their types
-held : (s : tie.Start) → Held (s .args .job)
-held s = record {
+job-fits : (s : tie.Start) → JobFits (s .args .job)
+job-fits s = record {
   k = search needs;
-  count = λ r. let f : Fits w32 (getD (s .args .job .counts) r 0) = search needs in omega arith;
+  count = λ r. let f : Fits w32 (getD (s .args .job .state .counts) r 0) = search needs in omega arith;
   weights = search needs;
   weight = λ place. search (needs, signed-fits-field);
   threshold = search needs;
 }
 
 -- so its line has room
-fits : (s : tie.Start) → length (recordLine (s .args .position) (s .args .job)) ≤ lineRoom
-fits s = record-room (s .args .job) (held s) (s .args .position) (search needs) (s .pre .0)
+line-fits : (s : tie.Start) → length (recordLine (s .args .position) (s .args .job)) ≤ lineRoom
+line-fits s = record-room (s .args .job) (job-fits s) (s .args .position) (search needs) (s .pre .0)
 
 -- the fields, and the line from n on
 abbrev position-text : tie.Start → List ℕ
@@ -37,7 +37,7 @@ abbrev n-text : tie.Start → List ℕ
 n-text s = spaced (decimal (s .args .job .table .n))
 
 abbrev verdict : tie.Start → List ℕ
-verdict s = verdictText (s .args .job .stage) (s .args .job)
+verdict s = verdictText (s .args .job .state .stage) (s .args .job)
 
 abbrev from-n : tie.Start → List ℕ
 from-n s = n-text s ++ (verdict s ++ lineFeed)
@@ -48,16 +48,13 @@ LineLeft s out here rest = Left (now (s .args .out)) 0 (recordLine (s .args .pos
 
 at-position : (s : tie.Start) → LineLeft s (now (s .args .out)) 0 (position-text s ++ from-n s)
 unfolding recordLine
-at-position s = all-left (now (s .args .out)) 0 (recordLine (s .args .position) (s .args .job)) (omega (arith, s .pre .1, fits s))
+at-position s = all-left (now (s .args .out)) 0 (recordLine (s .args .position) (s .args .job)) (omega (arith, s .pre .1, line-fits s))
 
 put-decimal-requires : tie.Need-put-decimal-requires
 put-decimal-requires c κs = next-room (position-text (c .before .before)) (from-n (c .before .before)) (at-position (c .before .before))
 
 at-n : (c : tie.After-put-decimal) → LineLeft (c .before .before .before) (c .put-decimal .last .0) (c .put-decimal .result) (from-n (c .before .before .before))
 at-n c = let s = c .before .before .before in next-left (position-text s) (from-n s) (at-position s) (c .put-decimal .ensures)
-
-cast-put-number : tie.Need-cast-put-number
-cast-put-number c = search needs
 
 put-number-requires : tie.Need-put-number-requires
 put-number-requires c κs =
@@ -90,19 +87,16 @@ returns : tie.Need-returns
 returns c =
     let end = c .before .before in
     let put = end .before .before .before .before in
-    line-done (at-end put) (end .put-byte .ensures) (fits (start-of (put .before .before .before .before)))
-
-same-length : tie.Need-same-length
-same-length c = search needs
+    line-done (at-end put) (end .put-byte .ensures) (line-fits (start-of (put .before .before .before .before)))
 
 pub record-line-spec : {M : Type 1} → statement M
 record-line-spec =
     tie.close
     (tie.spec
     put-decimal-requires
-    cast-put-number
+    (λ c. search needs)
     put-number-requires
     put-verdict-requires
     put-byte-requires
-    same-length
+    (λ c. search needs)
     returns)

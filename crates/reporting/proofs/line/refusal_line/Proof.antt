@@ -4,9 +4,9 @@ use Prim.Native.Nat.{ℕ}
 use native.Mathlib.Omega.{arith}
 use denote.Ref.{now}
 use borrow.Author.Needs.{needs}
-use Rattle.reporting.specs.Text.{decimal, spaced, lineFeed}
+use Rattle.text.specs.Text.{decimal, spaced, lineFeed}
 use Rattle.reporting.specs.Lines.{refusalLine}
-use Rattle.reporting.proofs.LineWriting.{Left, all-left, next-room, next-left, line-done}
+use Rattle.text.proofs.FieldWriting.{Left, all-left, next-room, next-left, line-done}
 use Rattle.reporting.proofs.RoomLaws.{refusal-room}
 use Rattle.reporting.proofs.line.refusal_line.Statement.{statement}
 use Rattle.reporting.proofs.line.refusal_line.Tie as tie
@@ -69,9 +69,6 @@ returns c =
     let a = start-of (put .before .before .before .before) .args in
     line-done (at-end put) (end .put-byte .ensures) (refusal-room (a .position) (a .number))
 
-same-length : tie.Need-same-length
-same-length c = search needs
-
 pub refusal-line-spec : {M : Type 1} → statement M
 refusal-line-spec =
     tie.close
@@ -80,5 +77,5 @@ refusal-line-spec =
     put-letter-requires
     put-number-requires
     put-byte-requires
-    same-length
+    (λ c. search needs)
     returns)

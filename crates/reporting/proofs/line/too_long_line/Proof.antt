@@ -9,9 +9,6 @@ use borrow.Author.Needs.{needs}
 use Rattle.reporting.proofs.line.too_long_line.Statement.{statement}
 use Rattle.reporting.proofs.line.too_long_line.Tie as tie
 
-slice-write-out : tie.Need-slice-write-out
-slice-write-out c = search needs
-
 slice-write-out-2 : tie.Need-slice-write-out-2
 slice-write-out-2 c = simp length-set (omega arith)
 
@@ -24,9 +21,6 @@ slice-write-out-4 c = simp length-set (omega arith)
 slice-write-out-5 : tie.Need-slice-write-out-5
 slice-write-out-5 c = simp length-set (omega arith)
 
-same-length : tie.Need-same-length
-same-length c = search needs
-
 returns : tie.Need-returns
 returns c = (refl, written-all (now (c .args .out)) 0 tooLongLine (omega (arith, c .pre)))
 
@@ -34,10 +28,10 @@ pub too-long-line-spec : {M : Type 1} → statement M
 too-long-line-spec =
     tie.close
     (tie.spec
-    slice-write-out
+    (λ c. search needs)
     slice-write-out-2
     slice-write-out-3
     slice-write-out-4
     slice-write-out-5
-    same-length
+    (λ c. search needs)
     returns)

@@ -6,23 +6,14 @@ use Rattle.soundness.proofs.TestLaws.{and-passed, and-failed}
 use Rattle.soundness.proofs.sound.goes_on.Statement.{statement}
 use Rattle.soundness.proofs.sound.goes_on.Tie as tie
 
-some-fails-requires : tie.Need-some-fails-requires
-some-fails-requires c κs = search needs
-
 returns : tie.Need-returns
 returns c = and-failed _ (c .before .some-fails .ensures) (not-true _ (c .if1 .taken)) refl
-
-same-vector-requires : tie.Need-same-vector-requires
-same-vector-requires c κs = search needs
 
 returns-2 : tie.Need-returns-2
 returns-2 c =
     let failed = c .before .before in
     and-passed (failed .before .some-fails .ensures) (not-false _ (failed .if1 .left))
     (rw (sym (c .before .same-vector .ensures) ∙ not-true _ (c .if2 .taken)))
-
-counts-within-requires : tie.Need-counts-within-requires
-counts-within-requires c κs = search needs
 
 returns-3 : tie.Need-returns-3
 returns-3 c =
@@ -35,9 +26,9 @@ pub goes-on-spec : {M : Type 1} → statement M
 goes-on-spec =
     tie.close
     (tie.spec
-    some-fails-requires
+    (λ c κs. search needs)
     returns
-    same-vector-requires
+    (λ c κs. search needs)
     returns-2
-    counts-within-requires
+    (λ c κs. search needs)
     returns-3)

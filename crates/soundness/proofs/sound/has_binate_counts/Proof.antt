@@ -4,19 +4,13 @@ use mathlib.Core.Option.{Option, some}
 use Prim.Native.Nat.{ℕ}
 use Rattle.function.proofs.BinateLaws.{binate-place-lt}
 use Rattle.table.specs.Witness.{sameCounts}
-use Rattle.table.proofs.InputLaws.{found-some, found-none}
+use Rattle.table.proofs.InputLaws.{lowest-some, lowest-none}
 use Rattle.function.specs.Binate.{binatePlace}
 use Rattle.state.specs.Sound.{isBinateWith}
 use borrow.Author.Needs.{needs}
 use Rattle.table.specs.Table.{functionOf}
 use Rattle.soundness.proofs.sound.has_binate_counts.Statement.{statement}
 use Rattle.soundness.proofs.sound.has_binate_counts.Tie as tie
-
-binate-place-requires : tie.Need-binate-place-requires
-binate-place-requires c κs = search needs
-
-enum-known-place : tie.Need-enum-known-place
-enum-known-place c = search needs
 
 enum-told : tie.Need-enum-told
 enum-told c = search needs
@@ -25,17 +19,14 @@ returns : tie.Need-returns
 returns c =
     let answer = c .before .before in
     let a = answer .before .args in
-    ap (λ (o : Option ℕ). isBinateWith (a .table) o (a .state)) (sym (found-none (binatePlace (functionOf (a .table))) (sym (answer .binate-place .ensures) ∙ c .enum-told .given .1)))
+    ap (λ (o : Option ℕ). isBinateWith (functionOf (a .table)) o (a .state)) (sym (lowest-none (binatePlace (functionOf (a .table))) (sym (answer .binate-place .ensures) ∙ c .enum-told .given .1)))
 
 -- the place that the search has found
 place-is : (c : tie.After-known-told) → binatePlace (functionOf (c .before .before .before .before .args .table)) ≡ some (c .before .place .given .0 .0)
-place-is c = found-some _ _ (sym (c .before .before .before .binate-place .ensures) ∙ c .before .place .given .1)
+place-is c = lowest-some _ _ (sym (c .before .before .before .binate-place .ensures) ∙ c .before .place .given .1)
 
 binate-counts-requires : tie.Need-binate-counts-requires
 binate-counts-requires c κs = (search needs, binate-place-lt (functionOf _) _ (place-is (c .before)))
-
-same-counts-requires : tie.Need-same-counts-requires
-same-counts-requires c κs = search needs
 
 returns-2 : tie.Need-returns-2
 returns-2 c =
@@ -43,16 +34,16 @@ returns-2 c =
     let a = known .before .before .before .before .args in
     c .same-counts .ensures
     ∙ ap (sameCounts (a .state .counts)) (c .before .binate-counts .ensures)
-    ∙ ap (λ (o : Option ℕ). isBinateWith (a .table) o (a .state)) (sym (place-is known))
+    ∙ ap (λ (o : Option ℕ). isBinateWith (functionOf (a .table)) o (a .state)) (sym (place-is known))
 
 pub has-binate-counts-spec : {M : Type 1} → statement M
 has-binate-counts-spec =
     tie.close
     (tie.spec
-    binate-place-requires
-    enum-known-place
+    (λ c κs. search needs)
+    (λ c. search needs)
     enum-told
     returns
     binate-counts-requires
-    same-counts-requires
+    (λ c κs. search needs)
     returns-2)

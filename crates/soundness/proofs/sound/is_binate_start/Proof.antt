@@ -16,9 +16,6 @@ returns-2 c =
     let fresh = c .before .before in
     rw (eq-eqb _ _ (fresh .if1 .left), sym (c .before .same-vector .ensures) ∙ not-true _ (c .if2 .taken))
 
-same-vector-requires-2 : tie.Need-same-vector-requires-2
-same-vector-requires-2 c κs = search needs
-
 returns-3 : tie.Need-returns-3
 returns-3 c =
     let current = c .before .before in
@@ -28,9 +25,6 @@ returns-3 c =
       sym (current .before .same-vector .ensures) ∙ not-false _ (current .if2 .left),
       sym (c .before .same-vector2 .ensures) ∙ not-true _ (c .if3 .taken),
     )
-
-has-binate-counts-requires : tie.Need-has-binate-counts-requires
-has-binate-counts-requires c κs = search needs
 
 returns-4 : tie.Need-returns-4
 returns-4 c =
@@ -51,7 +45,7 @@ is-binate-start-spec =
     returns
     same-vector-requires
     returns-2
-    same-vector-requires-2
+    (λ c κs. search needs)
     returns-3
-    has-binate-counts-requires
+    (λ c κs. search needs)
     returns-4)

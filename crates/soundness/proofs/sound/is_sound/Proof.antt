@@ -1,17 +1,20 @@
 -- `sound::is_sound` meets its contract: the array lengths are facts of the code's types, and the other tests stand one after the other.
 -- Assumes nothing.
 use mathlib.Core.Path.{_≡_, refl, sym, _∙_}
-use mathlib.Core.Bool.{Bool, true, _&&_, and-assoc}
+use mathlib.Core.Bool.{Bool, true, _&&_, and-assoc, and-true}
+use native.Mathlib.Nat.{one-mul}
 use lib.Dec.{leb, eqb}
 use lib.ListN.{length, drop}
 use borrow.Author.Tests.{eq-eqb, ne-eqb, leb-true, not-true, not-false}
 use Rattle.numbers.specs.Tests.{allAtMost}
 use Rattle.numbers.proofs.TestLaws.{and-left, and-right}
-use Rattle.table.specs.Table.{rows}
+use Rattle.function.specs.Witness.{countOf}
+use Rattle.table.specs.Table.{rows, functionOf}
 use Rattle.table.specs.Gate.{inRange}
 use Rattle.types.specs.declared.table.Table.{Table}
 use Rattle.types.specs.declared.state.State.{State}
 use Rattle.state.specs.Sound.{cap, markFor, soundIn, isSound}
+use Rattle.table.proofs.OnTables.{table-counts-cared}
 use Rattle.soundness.proofs.TestLaws.{and-passed, and-failed}
 use borrow.Author.Needs.{needs}
 use Rattle.soundness.proofs.sound.is_sound.Statement.{statement}
@@ -26,34 +29,33 @@ module _ (t : Table) (x : State) where
   abbrev current : Bool
   current = inRange (x .k) (t .n) (x .v .a) (x .v .b)
 
-  -- these two, s within ±K, and no counts past the table
+  -- so is s
+  abbrev copied : Bool
+  copied = inRange (x .k) (t .n) (x .s .a) (x .s .b)
+
+  -- these three, and no counts past the table
   abbrev limits : Bool
-  limits = capped && current && inRange (x .k) (t .n) (x .s .a) (x .s .b) && allAtMost 0 (drop (rows t) (x .counts))
+  limits = capped && current && copied && allAtMost 0 (drop (rows t) (x .counts))
 
   -- M is that of the stage
   abbrev marked : Bool
   marked = eqb (x .mark) (markFor (x .stage) (x .k))
 
-  -- a state of the code's array lengths is sound where the limits, the mark and the stage are
+  -- a state of the code's array lengths is sound on a table, every row of which is cared for, where the limits, the mark and the stage are
   sound-parts : length (x .v .a) ≡ 8 → length (x .s .a) ≡ 8 → length (x .counts) ≡ 256
-      → (limits && (marked && soundIn t (x .stage) x)) ≡ isSound t x
+      → (limits && (marked && soundIn (functionOf t) (x .stage) x)) ≡ isSound (functionOf t) x
   unfolding isSound
-  sound-parts v s counts = rw (v, s, counts) (sym (and-assoc limits marked (soundIn t (x .stage) x)))
+  sound-parts v s counts =
+      rw (v, s, counts, one-mul (x .k), table-counts-cared t (countOf (x .counts)), and-true (capped && current && copied)) (sym (and-assoc limits marked (soundIn (functionOf t) (x .stage) x)))
 
 -- of the state that is tested
 parts : (c : tie.Start) → let t = c .args .table in
     let x = c .args .state in
-    (limits t x && (marked t x && soundIn t (x .stage) x)) ≡ isSound t x
+    (limits t x && (marked t x && soundIn (functionOf t) (x .stage) x)) ≡ isSound (functionOf t) x
 parts c = sound-parts (c .args .table) (c .args .state) (search needs) (search needs) (search needs)
-
-keeps-limits-requires : tie.Need-keeps-limits-requires
-keeps-limits-requires c κs = search needs
 
 returns : tie.Need-returns
 returns c = and-failed _ (c .before .keeps-limits .ensures) (not-true _ (c .if1 .taken)) refl ∙ parts (c .before .before)
-
-mark-for-requires : tie.Need-mark-for-requires
-mark-for-requires c κs = search needs
 
 returns-2 : tie.Need-returns-2
 returns-2 c =
@@ -83,9 +85,9 @@ pub is-sound-spec : {M : Type 1} → statement M
 is-sound-spec =
     tie.close
     (tie.spec
-    keeps-limits-requires
+    (λ c κs. search needs)
     returns
-    mark-for-requires
+    (λ c κs. search needs)
     returns-2
     sound-in-requires
     returns-3)

@@ -21,9 +21,6 @@ returns-2 c =
     let capped = c .before .before in
     rw (le-leb _ _ (capped .if1 .left), sym (c .before .vector-within .ensures) ∙ not-true _ (c .if2 .taken))
 
-vector-within-requires-2 : tie.Need-vector-within-requires-2
-vector-within-requires-2 c κs = search needs
-
 returns-3 : tie.Need-returns-3
 returns-3 c =
     let current = c .before .before in
@@ -33,9 +30,6 @@ returns-3 c =
       sym (current .before .vector-within .ensures) ∙ not-false _ (current .if2 .left),
       sym (c .before .vector-within2 .ensures) ∙ not-true _ (c .if3 .taken),
     )
-
-row-count-requires : tie.Need-row-count-requires
-row-count-requires c κs = search needs
 
 counts-within-requires : tie.Need-counts-within-requires
 counts-within-requires c κs = omega (arith, c .row-count .ensures, rows-le (c .before .before .before .before .before .before .before .pre))
@@ -60,8 +54,8 @@ keeps-limits-spec =
     returns
     vector-within-requires
     returns-2
-    vector-within-requires-2
+    (λ c κs. search needs)
     returns-3
-    row-count-requires
+    (λ c κs. search needs)
     counts-within-requires
     returns-4)

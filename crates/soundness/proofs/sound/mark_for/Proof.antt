@@ -20,27 +20,6 @@ enum-told c = search needs
 top-power-requires : tie.Need-top-power-requires
 top-power-requires c κs = search needs
 
-enum-told-2 : tie.Need-enum-told-2
-enum-told-2 c = search needs
-
-top-power-requires-2 : tie.Need-top-power-requires-2
-top-power-requires-2 c κs = search needs
-
-enum-told-3 : tie.Need-enum-told-3
-enum-told-3 c = search needs
-
-sub-top-power : tie.Need-sub-top-power
-sub-top-power c = search needs
-
-top-power-requires-3 : tie.Need-top-power-requires-3
-top-power-requires-3 c κs = search needs
-
-enum-told-4 : tie.Need-enum-told-4
-enum-told-4 c = search needs
-
-top-power-requires-4 : tie.Need-top-power-requires-4
-top-power-requires-4 c κs = search needs
-
 returns : tie.Need-returns
 returns c = mark-in Open _ (c .top-power .ensures) (c .before .enum-told .given .1)
 
@@ -63,13 +42,13 @@ mark-for-spec =
     (tie.spec
     enum-told
     top-power-requires
-    enum-told-2
-    top-power-requires-2
-    enum-told-3
-    sub-top-power
-    top-power-requires-3
-    enum-told-4
-    top-power-requires-4
+    (λ c. search needs)
+    (λ c κs. search needs)
+    (λ c. search needs)
+    (λ c. search needs)
+    (λ c κs. search needs)
+    (λ c. search needs)
+    (λ c κs. search needs)
     returns
     returns-2
     returns-3

@@ -3,15 +3,12 @@
 use mathlib.Core.Path.{_∙_, ap}
 use borrow.Author.Needs.{needs}
 use Rattle.table.specs.Inputs.{isRow}
-use Rattle.table.proofs.InputLaws.{is-row-found}
+use Rattle.table.proofs.InputLaws.{is-row-lowest}
 use Rattle.function.specs.Failing.{failing}
 use Rattle.state.proofs.SoundBounds.{in-range-search}
 use Rattle.table.specs.Table.{functionOf}
 use Rattle.soundness.proofs.sound.some_fails.Statement.{statement}
 use Rattle.soundness.proofs.sound.some_fails.Tie as tie
-
-row-values-requires : tie.Need-row-values-requires
-row-values-requires c κs = search needs
 
 first-failing-requires : tie.Need-first-failing-requires
 first-failing-requires c κs =
@@ -21,14 +18,11 @@ first-failing-requires c κs =
     let x = start .args .state in
     (start .pre .0, in-range-search (x .k) n (x .v .a) (x .v .b) (start .pre .1) (start .pre .2), valued .row-values .ensures)
 
-is-row-requires : tie.Need-is-row-requires
-is-row-requires c κs = search needs
-
 returns : tie.Need-returns
 returns c =
     let a = c .before .before .before .before .before .args in
-    c .is-row .ensures ∙ ap isRow (c .before .first-failing .ensures) ∙ is-row-found (failing (functionOf (a .table)) (a .state .v))
+    c .is-row .ensures ∙ ap isRow (c .before .first-failing .ensures) ∙ is-row-lowest (failing (functionOf (a .table)) (a .state .v))
 
 pub some-fails-spec : {M : Type 1} → statement M
 some-fails-spec =
-    tie.close (tie.spec row-values-requires first-failing-requires is-row-requires returns)
+    tie.close (tie.spec (λ c κs. search needs) first-failing-requires (λ c κs. search needs) returns)

@@ -1,6 +1,6 @@
 -- `sound::sound_in` meets its contract, stage by stage: what the stage asks is tested after the trace. Assumes nothing.
 use mathlib.Core.Path.{_≡_, refl, sym, _∙_, ap}
-use mathlib.Core.Bool.{Bool, not, _&&_, _||_, and-assoc}
+use mathlib.Core.Bool.{Bool, true, false, not, _&&_, _||_, and-assoc}
 use borrow.Author.Needs.{needs}
 use lib.Dec.{leb, eqb}
 use Rattle.numbers.specs.Tests.{allAtMost, isSome}
@@ -17,40 +17,50 @@ use Rattle.table.specs.Table.{functionOf}
 use Rattle.soundness.proofs.sound.sound_in.Statement.{statement}
 use Rattle.soundness.proofs.sound.sound_in.Tie as tie
 
+-- the stages that ask for a trace
+abbrev Traces : Stage → Type 0
+Traces Open = Unit {0}
+Traces Found = Unit {0}
+Traces Looped = Unit {0}
+Traces Binate = ⊥
+
 module _ (t : Table) (x : State) where
   -- traced, on a table that is not binate
   abbrev unateTrace : Bool
-  unateTrace = isTraced t x && not (isSome (binatePlace (functionOf t)))
+  unateTrace = isTraced (functionOf t) x && not (isSome (binatePlace (functionOf t)))
 
-  -- some row fails, and v differs from s unless all counts are 0
-  abbrev goesOn : Bool
-  goesOn = isSome (failing (functionOf t) (x .v)) && (not (sameVector (x .v) (x .s)) || allAtMost 0 (x .counts))
+  -- what a stage asks after that
+  abbrev asked : Stage → Bool
+  asked Open = isSome (failing (functionOf t) (x .v)) && (not (sameVector (x .v) (x .s)) || allAtMost 0 (x .counts))
+  asked Found = not (isSome (failing (functionOf t) (x .v)))
+  asked Looped = leb 2 (x .k) && sameVector (x .v) (x .s)
+  asked Binate = false
 
-  -- a correction has led back to s
-  abbrev hasLooped : Bool
-  hasLooped = leb 2 (x .k) && sameVector (x .v) (x .s)
-
-  -- what the stages open and looped ask, in these parts
-  open-parts : (unateTrace && goesOn) ≡ soundIn t Open x
+  -- such a stage asks the two
+  parts : (stage : Stage) → Traces stage → (unateTrace && asked stage) ≡ soundIn (functionOf t) stage x
   unfolding soundIn
-  open-parts = sym (and-assoc unateTrace (isSome (failing (functionOf t) (x .v))) (not (sameVector (x .v) (x .s)) || allAtMost 0 (x .counts)))
+  parts Open n = sym (and-assoc unateTrace (isSome (failing (functionOf t) (x .v))) (not (sameVector (x .v) (x .s)) || allAtMost 0 (x .counts)))
+  parts Found n = refl
+  parts Looped n = sym (and-assoc unateTrace (leb 2 (x .k)) (sameVector (x .v) (x .s)))
+  parts Binate n = absurd n
 
-  looped-parts : (unateTrace && hasLooped) ≡ soundIn t Looped x
-  unfolding soundIn
-  looped-parts = sym (and-assoc unateTrace (leb 2 (x .k)) (sameVector (x .v) (x .s)))
-
-  -- the stages found and binate ask what they say
-  found-parts : (unateTrace && not (isSome (failing (functionOf t) (x .v)))) ≡ soundIn t Found x
-  unfolding soundIn
-  found-parts = refl
-
-  binate-parts : (eqb (x .k) 0 && sameVector (x .v) zeroVector && sameVector (x .s) zeroVector && isBinateWith t (binatePlace (functionOf t)) x) ≡ soundIn t Binate x
+  binate-parts : (eqb (x .k) 0 && sameVector (x .v) zeroVector && sameVector (x .s) zeroVector && isBinateWith (functionOf t) (binatePlace (functionOf t)) x)
+      ≡ soundIn (functionOf t) Binate x
   unfolding soundIn
   binate-parts = refl
 
   -- the answer of a stage that the code has told
-  in-stage : (stage : Stage) {r : Bool} → r ≡ soundIn t stage x → x .stage ≡ stage → r ≡ soundIn t (x .stage) x
-  in-stage stage e told = e ∙ ap (λ (y : Stage). soundIn t y x) (sym told)
+  in-stage : (stage : Stage) {r : Bool} → r ≡ soundIn (functionOf t) stage x → x .stage ≡ stage → r ≡ soundIn (functionOf t) (x .stage) x
+  in-stage stage e told = e ∙ ap (λ (y : Stage). soundIn (functionOf t) y x) (sym told)
+
+  -- the answer where the trace passes, and where it fails
+  traced : (stage : Stage) → Traces stage → {trace r : Bool} → trace ≡ unateTrace → trace ≡ true → r ≡ asked stage → x .stage ≡ stage
+      → r ≡ soundIn (functionOf t) (x .stage) x
+  traced stage n is passes e = in-stage stage (and-passed is passes e ∙ parts stage n)
+
+  untraced : (stage : Stage) → Traces stage → {trace : Bool} → trace ≡ unateTrace → trace ≡ false → x .stage ≡ stage
+      → trace ≡ soundIn (functionOf t) (x .stage) x
+  untraced stage n is fails = in-stage stage (and-failed _ is fails fails ∙ parts stage n)
 
 enum-told : tie.Need-enum-told
 enum-told c = search needs
@@ -58,80 +68,41 @@ enum-told c = search needs
 is-unate-trace-requires : tie.Need-is-unate-trace-requires
 is-unate-trace-requires c κs = search needs
 
-goes-on-requires : tie.Need-goes-on-requires
-goes-on-requires c κs = search needs
-
-enum-told-2 : tie.Need-enum-told-2
-enum-told-2 c = search needs
-
-is-unate-trace-requires-2 : tie.Need-is-unate-trace-requires-2
-is-unate-trace-requires-2 c κs = search needs
-
-some-fails-requires : tie.Need-some-fails-requires
-some-fails-requires c κs = search needs
-
-enum-told-3 : tie.Need-enum-told-3
-enum-told-3 c = search needs
-
-is-unate-trace-requires-3 : tie.Need-is-unate-trace-requires-3
-is-unate-trace-requires-3 c κs = search needs
-
-has-looped-requires : tie.Need-has-looped-requires
-has-looped-requires c κs = search needs
-
-enum-told-4 : tie.Need-enum-told-4
-enum-told-4 c = search needs
-
-is-binate-start-requires : tie.Need-is-binate-start-requires
-is-binate-start-requires c κs = search needs
-
 returns : tie.Need-returns
 returns c =
     let trace = c .before .before in
-    let told = trace .before in
-    let a = told .before .before .args in
-    in-stage (a .table) (a .state) Open (and-passed (trace .is-unate-trace .ensures) (c .before .if1 .taken) (c .goes-on .ensures) ∙ open-parts (a .table) (a .state))
-    (told .enum-told .given .1)
+    let a = trace .before .before .before .args in
+    traced (a .table) (a .state) Open tt (trace .is-unate-trace .ensures) (c .before .if1 .taken) (c .goes-on .ensures) (trace .before .enum-told .given .1)
 
 returns-2 : tie.Need-returns-2
 returns-2 c =
     let trace = c .before in
-    let told = trace .before in
-    let a = told .before .before .args in
-    in-stage (a .table) (a .state) Open (and-failed _ (trace .is-unate-trace .ensures) (c .if1 .left) (c .if1 .left) ∙ open-parts (a .table) (a .state))
-    (told .enum-told .given .1)
+    let a = trace .before .before .before .args in
+    untraced (a .table) (a .state) Open tt (trace .is-unate-trace .ensures) (c .if1 .left) (trace .before .enum-told .given .1)
 
 returns-3 : tie.Need-returns-3
 returns-3 c =
     let trace = c .before .before in
-    let told = trace .before in
-    let a = told .before .before .args in
-    in-stage (a .table) (a .state) Found (and-passed (trace .is-unate-trace2 .ensures) (c .before .if2 .taken) (ap not (c .some-fails .ensures)) ∙ found-parts (a .table) (a .state))
-    (told .enum-told2 .given .1)
+    let a = trace .before .before .before .args in
+    traced (a .table) (a .state) Found tt (trace .is-unate-trace2 .ensures) (c .before .if2 .taken) (ap not (c .some-fails .ensures)) (trace .before .enum-told2 .given .1)
 
 returns-4 : tie.Need-returns-4
 returns-4 c =
     let trace = c .before in
-    let told = trace .before in
-    let a = told .before .before .args in
-    in-stage (a .table) (a .state) Found (and-failed _ (trace .is-unate-trace2 .ensures) (c .if2 .left) (c .if2 .left) ∙ found-parts (a .table) (a .state))
-    (told .enum-told2 .given .1)
+    let a = trace .before .before .before .args in
+    untraced (a .table) (a .state) Found tt (trace .is-unate-trace2 .ensures) (c .if2 .left) (trace .before .enum-told2 .given .1)
 
 returns-5 : tie.Need-returns-5
 returns-5 c =
     let trace = c .before .before in
-    let told = trace .before in
-    let a = told .before .before .args in
-    in-stage (a .table) (a .state) Looped (and-passed (trace .is-unate-trace3 .ensures) (c .before .if3 .taken) (c .has-looped .ensures) ∙ looped-parts (a .table) (a .state))
-    (told .enum-told3 .given .1)
+    let a = trace .before .before .before .args in
+    traced (a .table) (a .state) Looped tt (trace .is-unate-trace3 .ensures) (c .before .if3 .taken) (c .has-looped .ensures) (trace .before .enum-told3 .given .1)
 
 returns-6 : tie.Need-returns-6
 returns-6 c =
     let trace = c .before in
-    let told = trace .before in
-    let a = told .before .before .args in
-    in-stage (a .table) (a .state) Looped (and-failed _ (trace .is-unate-trace3 .ensures) (c .if3 .left) (c .if3 .left) ∙ looped-parts (a .table) (a .state))
-    (told .enum-told3 .given .1)
+    let a = trace .before .before .before .args in
+    untraced (a .table) (a .state) Looped tt (trace .is-unate-trace3 .ensures) (c .if3 .left) (trace .before .enum-told3 .given .1)
 
 returns-7 : tie.Need-returns-7
 returns-7 c =
@@ -145,15 +116,15 @@ sound-in-spec =
     (tie.spec
     enum-told
     is-unate-trace-requires
-    goes-on-requires
-    enum-told-2
-    is-unate-trace-requires-2
-    some-fails-requires
-    enum-told-3
-    is-unate-trace-requires-3
-    has-looped-requires
-    enum-told-4
-    is-binate-start-requires
+    (λ c κs. search needs)
+    (λ c. search needs)
+    (λ c κs. search needs)
+    (λ c κs. search needs)
+    (λ c. search needs)
+    (λ c κs. search needs)
+    (λ c κs. search needs)
+    (λ c. search needs)
+    (λ c κs. search needs)
     returns
     returns-2
     returns-3

@@ -11,11 +11,8 @@ use Rattle.table.specs.Table.{functionOf}
 use Rattle.stepping.proofs.decided.decided_by.Statement.{statement}
 use Rattle.stepping.proofs.decided.decided_by.Tie as tie
 
-fresh-state-requires : tie.Need-fresh-state-requires
-fresh-state-requires c κs = search needs
-
-steps-requires : tie.Need-steps-requires
-steps-requires c κs =
+run-requires : tie.Need-run-requires
+run-requires c κs =
     let p = c .before .pre in
     let t = c .before .args .table in
     let is = c .fresh-state .ensures in (
@@ -26,7 +23,7 @@ steps-requires c κs =
     )
 
 returns : tie.Need-returns
-returns c = c .steps .ensures ∙ ap (run (functionOf (c .before .before .args .table)) callBudget) (c .before .fresh-state .ensures)
+returns c = c .run .ensures ∙ ap (run (functionOf (c .before .before .args .table)) callBudget) (c .before .fresh-state .ensures)
 
 pub decided-by-spec : {M : Type 1} → statement M
-decided-by-spec = tie.close (tie.spec fresh-state-requires steps-requires returns)
+decided-by-spec = tie.close (tie.spec (λ c κs. search needs) run-requires returns)

@@ -5,7 +5,7 @@ use mathlib.Core.Option.{some}
 use Prim.Native.Nat.{ℕ}
 use borrow.Author.Needs.{needs}
 use Rattle.function.proofs.BinateLaws.{binate-place-lt}
-use Rattle.table.proofs.InputLaws.{found-some, found-none}
+use Rattle.table.proofs.InputLaws.{lowest-some, lowest-none}
 use Rattle.types.specs.declared.table.Table.{Table}
 use Rattle.function.specs.Binate.{binatePlace}
 use Rattle.types.specs.declared.stage.Stage.the-variants as Stage′
@@ -15,12 +15,6 @@ use Rattle.state.proofs.FreshSound.{table-fresh-open}
 use Rattle.table.specs.Table.{functionOf}
 use Rattle.stepping.proofs.start.fresh_state.Statement.{statement}
 use Rattle.stepping.proofs.start.fresh_state.Tie as tie
-
-binate-place-requires : tie.Need-binate-place-requires
-binate-place-requires c κs = search needs
-
-enum-known-place : tie.Need-enum-known-place
-enum-known-place c = search needs
 
 enum-told : tie.Need-enum-told
 enum-told c = search needs
@@ -32,7 +26,7 @@ returns : tie.Need-returns
 returns c =
     let at = c .before .before .before in
     let t = at .before .args .table in
-    c .start-state .ensures ∙ sym (table-fresh-open t (found-none (binatePlace (functionOf t)) (sym (at .binate-place .ensures) ∙ c .before .enum-told .given .1)))
+    c .start-state .ensures ∙ sym (table-fresh-open t (lowest-none (binatePlace (functionOf t)) (sym (at .binate-place .ensures) ∙ c .before .enum-told .given .1)))
 
 -- the table, and the place that was found
 abbrev table : tie.After-known-told → Table
@@ -42,13 +36,10 @@ abbrev place : tie.After-known-told → ℕ
 place c = c .before .place .given .0 .0
 
 place-found : (c : tie.After-known-told) → binatePlace (functionOf (table c)) ≡ some (place c)
-place-found c = found-some (binatePlace (functionOf (table c))) (place c) (sym (c .before .before .before .binate-place .ensures) ∙ c .before .place .given .1)
+place-found c = lowest-some (binatePlace (functionOf (table c))) (place c) (sym (c .before .before .before .binate-place .ensures) ∙ c .before .place .given .1)
 
 binate-counts-requires : tie.Need-binate-counts-requires
 binate-counts-requires c κs = (c .before .before .before .before .pre, binate-place-lt (functionOf (table c)) (place c) (place-found c))
-
-start-state-requires-2 : tie.Need-start-state-requires-2
-start-state-requires-2 c κs = search needs
 
 returns-2 : tie.Need-returns-2
 returns-2 c =
@@ -62,11 +53,11 @@ pub fresh-state-spec : {M : Type 1} → statement M
 fresh-state-spec =
     tie.close
     (tie.spec
-    binate-place-requires
-    enum-known-place
+    (λ c κs. search needs)
+    (λ c. search needs)
     enum-told
     start-state-requires
     returns
     binate-counts-requires
-    start-state-requires-2
+    (λ c κs. search needs)
     returns-2)

@@ -41,7 +41,7 @@ fast : (c : tie.Then1 Inv-loop μ-loop)
     (0 < c .before .before .loop .left) × (core .stage ≡ Open) × (magnitude (core .v) ≤ 14000) × (magnitude (core .s) ≤ 14000)
 fast c = c .before .is-fast .ensures (c .if1 .taken)
 
--- the part of a turn is 1 to 2,000 of what is left
+-- the part of a pass is 1 to 2,000 of what is left
 part-of : (c : tie.Joined2 Inv-loop μ-loop) → (0 < c .if2 .part) × (c .if2 .part ≤ 2000) × (c .if2 .part ≤ c .before .before .before .loop .left)
 part-of c =
     let some = fast (c .before) .0 in ⊎-elim (λ w. (omega arith, omega arith, omega arith)) (λ w. (omega arith, omega arith, omega arith)) (c .if2 .came)

@@ -4,15 +4,13 @@ use native.Mathlib.Omega.{arith}
 use borrow.Author.Needs.{needs}
 use borrow.Author.Tests.{leb-true, not-false}
 use Rattle.numbers.proofs.TestLaws.{no-true}
+use Rattle.state.proofs.MachineLaws.{open-stage}
 use Rattle.lanes.specs.Sums.{magnitude}
 use Rattle.stepping.proofs.stepping.is_fast.Statement.{statement}
 use Rattle.stepping.proofs.stepping.is_fast.Tie as tie
 
 returns : tie.Need-returns
 returns c e = absurd (no-true e)
-
-is-ended-requires : tie.Need-is-ended-requires
-is-ended-requires c κs = search needs
 
 returns-2 : tie.Need-returns-2
 returns-2 c e = absurd (no-true e)
@@ -23,15 +21,12 @@ is-small-requires c κs = search needs
 returns-3 : tie.Need-returns-3
 returns-3 c e = absurd (no-true e)
 
-is-small-requires-2 : tie.Need-is-small-requires-2
-is-small-requires-2 c κs = search needs
-
 returns-4 : tie.Need-returns-4
 returns-4 c e =
     let at = c .before .before .before .before in
     let core = at .before .before .args .core in (
       omega (arith, at .before .if1 .left),
-      at .is-ended .ensures .1 (c .before .before .before .if2 .left),
+      open-stage _ (sym (at .is-ended .ensures) ∙ c .before .before .before .if2 .left),
       leb-true (magnitude (core .v)) 14000 (sym (c .before .before .is-small .ensures) ∙ not-false _ (c .before .if3 .left)),
       leb-true (magnitude (core .s)) 14000 (sym (c .is-small2 .ensures) ∙ e),
     )
@@ -41,9 +36,9 @@ is-fast-spec =
     tie.close
     (tie.spec
     returns
-    is-ended-requires
+    (λ c κs. search needs)
     returns-2
     is-small-requires
     returns-3
-    is-small-requires-2
+    (λ c κs. search needs)
     returns-4)

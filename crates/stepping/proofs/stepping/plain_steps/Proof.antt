@@ -11,10 +11,10 @@ use lib.ListN.{getD}
 use borrow.Author.Needs.{needs}
 use borrow.Author.Tests.{eq-eqb, ne-eqb}
 use Rattle.numbers.proofs.TabulateLaws.{getD-tabulate}
-use Rattle.table.specs.declared.inputs.Found.{Found}
-use Rattle.table.specs.declared.inputs.Found.the-variants.{Row}
+use Rattle.table.specs.declared.inputs.Lowest.{Lowest}
+use Rattle.table.specs.declared.inputs.Lowest.the-variants.{Row}
 use Rattle.table.specs.Table.{value, functionOf}
-use Rattle.table.specs.Inputs.{found}
+use Rattle.table.specs.Inputs.{lowestOf}
 use Rattle.table.proofs.TableLaws.{rows-le}
 use Rattle.function.specs.Failing.{failing}
 use Rattle.types.specs.declared.table.Table.{Table}
@@ -27,9 +27,9 @@ use Rattle.stepping.proofs.stepping.plain_steps.Statement.{statement}
 use Rattle.stepping.proofs.stepping.plain_steps.Tie as tie
 
 -- the invariant: `made` of the budget's steps are made from `start`
-record Turned (t : Table) (start : State) (budget made : ℕ) (x : State) (next : Found) : Type 0 where
+record Turned (t : Table) (start : State) (budget made : ℕ) (x : State) (next : Lowest) : Type 0 where
   stands : Stands t start made x
-  search : next ≡ found (failing (functionOf t) (x .v))
+  search : next ≡ lowestOf (failing (functionOf t) (x .v))
   within : made ≤ budget
 
 abbrev Inv-loop : tie.InvT-loop
@@ -39,9 +39,6 @@ abbrev μ-loop : tie.MeasureT-loop
 μ-loop table budget values distances₀ j₀ next₀ made₀ distances j next made = budget - made
 
 -- ---- before the loop
-
-row-values-requires : tie.Need-row-values-requires Inv-loop μ-loop
-row-values-requires c κs = search needs
 
 first-failing-requires : tie.Need-first-failing-requires Inv-loop μ-loop
 first-failing-requires c κs =
@@ -76,9 +73,6 @@ bounded c =
     let few : state c .k + c .loop .made ≤ cap = omega (arith, p .3, c .loop .inv .within) in
     stands-bounded (p .0) (p .1) few (c .loop .inv .stands)
 
-enum-known-next : tie.Need-enum-known-next Inv-loop μ-loop
-enum-known-next c = search needs
-
 enum-told : tie.Need-enum-told Inv-loop μ-loop
 enum-told c = search needs
 
@@ -90,7 +84,7 @@ returns c =
     let inv = c .before .before .before .before .loop .inv in
     c .with-stage .ensures ∙ stands-found (inv .stands) _ (inv .within) (sym (inv .search) ∙ c .before .enum-told .given .1)
 
--- ---- the row of a turn
+-- ---- the row of a pass
 
 abbrev head : tie.After-known-told Inv-loop μ-loop → tie.At-loop Inv-loop μ-loop
 head c = c .before .before .before .before
@@ -98,7 +92,7 @@ head c = c .before .before .before .before
 abbrev row : tie.After-known-told Inv-loop μ-loop → ℕ
 row c = c .before .next .given .0 .0
 
-row-found : (c : tie.After-known-told Inv-loop μ-loop) → found (failing (functionOf (table (head c))) (head c .loop .j .v)) ≡ Row (row c)
+row-found : (c : tie.After-known-told Inv-loop μ-loop) → lowestOf (failing (functionOf (table (head c))) (head c .loop .j .v)) ≡ Row (row c)
 row-found c = sym (head c .loop .inv .search) ∙ c .before .next .given .1
 
 -- it is one of the 256
@@ -139,18 +133,12 @@ element-write-j c = row-below (c .before .before .before)
 
 -- ---- what follows it
 
-same-vector-requires : tie.Need-same-vector-requires Inv-loop μ-loop
-same-vector-requires c κs = search needs
-
 -- the turn's row and its correction, from there
 abbrev told : tie.After-same-vector Inv-loop μ-loop → tie.After-known-told Inv-loop μ-loop
 told c = c .before .before .before .before .before
 
 abbrev corrected : tie.After-same-vector Inv-loop μ-loop → tie.After-corrected-by Inv-loop μ-loop
 corrected c = c .before .before .before
-
-with-stage-requires-2 : tie.Need-with-stage-requires-2 Inv-loop μ-loop
-with-stage-requires-2 c κs = search needs
 
 returns-2 : tie.Need-returns-2 Inv-loop μ-loop
 returns-2 c =
@@ -160,9 +148,6 @@ returns-2 c =
     c .with-stage2 .ensures
     ∙ stands-looped (head at .loop .inv .stands) (row-found at) (row-value at) (corrected same .corrected-by .ensures) _ more
     (sym (same .same-vector .ensures) ∙ c .before .if1 .taken)
-
-top-power-requires : tie.Need-top-power-requires Inv-loop μ-loop
-top-power-requires c κs = search needs
 
 -- past step 4 the state stands at the next step
 stands-on : (c : tie.Joined2 Inv-loop μ-loop)
@@ -187,25 +172,10 @@ first-failing-requires-2 c κs =
     let few : state (head at) .k + (head at .loop .made + 1) ≤ cap = omega (arith, p .3, at .before .before .before .loop-test .taken) in
     (p .0, stands-bounded (p .0) (p .1) few (stands-on on) .ranged, listed (head at) .row-values .ensures)
 
-add-made : tie.Need-add-made Inv-loop μ-loop
-add-made c = omega arith
-
-loop-less : tie.Need-loop-less Inv-loop μ-loop
-loop-less c = omega arith
-
 loop-again : tie.Need-loop-again Inv-loop μ-loop
 loop-again c = record { stands = stands-on (c .before .before .before .before); search = c .first-failing2 .ensures; within = omega arith }
 
 -- ---- after the loop
-
-enum-told-2 : tie.Need-enum-told-2 Inv-loop μ-loop
-enum-told-2 c = search needs
-
-enum-told-3 : tie.Need-enum-told-3 Inv-loop μ-loop
-enum-told-3 c = search needs
-
-with-stage-requires-3 : tie.Need-with-stage-requires-3 Inv-loop μ-loop
-with-stage-requires-3 c κs = search needs
 
 returns-3 : tie.Need-returns-3 Inv-loop μ-loop
 returns-3 c =
@@ -224,10 +194,10 @@ plain-steps-spec =
     (tie.spec
     Inv-loop
     μ-loop
-    row-values-requires
+    (λ c κs. search needs)
     first-failing-requires
     loop-holds
-    enum-known-next
+    (λ c. search needs)
     enum-told
     with-stage-requires
     returns
@@ -239,16 +209,16 @@ plain-steps-spec =
     add-j-2
     mul-j-2
     element-write-j
-    same-vector-requires
-    with-stage-requires-2
+    (λ c κs. search needs)
+    (λ c κs. search needs)
     returns-2
-    top-power-requires
+    (λ c κs. search needs)
     first-failing-requires-2
-    add-made
-    loop-less
+    (λ c. omega arith)
+    (λ c. omega arith)
     loop-again
-    enum-told-2
-    enum-told-3
-    with-stage-requires-3
+    (λ c. search needs)
+    (λ c. search needs)
+    (λ c κs. search needs)
     returns-3
     returns-4)

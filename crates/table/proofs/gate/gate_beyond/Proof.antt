@@ -8,9 +8,6 @@ use Rattle.table.specs.Gate.{weightLimit, inRange}
 use Rattle.table.proofs.gate.gate_beyond.Statement.{statement}
 use Rattle.table.proofs.gate.gate_beyond.Tie as tie
 
-in-range-requires : tie.Need-in-range-requires
-in-range-requires c κs = search needs
-
 returns : tie.Need-returns
 returns c =
     let g = c .before .before .before .args .gate in
@@ -18,4 +15,4 @@ returns c =
     ap not (c .in-range .ensures ∙ ap (inRange weightLimit (g .n) (g .weights)) read)
 
 pub gate-beyond-spec : {M : Type 1} → statement M
-gate-beyond-spec = tie.close (tie.spec in-range-requires returns)
+gate-beyond-spec = tie.close (tie.spec (λ c κs. search needs) returns)

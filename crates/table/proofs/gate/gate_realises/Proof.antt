@@ -10,9 +10,9 @@ use Rattle.numbers.specs.Tests.{sameBool, allBelow}
 use Rattle.numbers.proofs.TestLaws.{same-bool-beq, all-below-zero, all-below-more, all-below-fails}
 use Rattle.types.specs.declared.table.Table.{Table}
 use Rattle.types.specs.declared.gate.Gate.{Gate}
-use Rattle.table.specs.Table.{rows, value}
-use Rattle.table.specs.Gate.{realises}
-use Rattle.function.specs.Gate.{gateTrue}
+use Rattle.table.specs.Table.{rows, value, functionOf}
+use Rattle.function.specs.Gate.{gateTrue, realises}
+use Rattle.table.proofs.OnTables.{table-realises-test}
 use Rattle.table.proofs.TableLaws.{rows-le}
 use Rattle.function.specs.Function.{level}
 use Rattle.table.proofs.gate.gate_realises.Statement.{statement}
@@ -23,23 +23,18 @@ abbrev agrees : Table → Gate → ℕ → Bool
 agrees table gate row = sameBool (gateTrue (gate .weights) (gate .threshold) (level 2 row)) (value table row)
 
 -- where they differ on a row, the gate does not realise the table
-realises-fails : (t : Table) (g : Gate) (r : ℕ) → r < rows t → agrees t g r ≡ false → realises t g ≡ false
-unfolding realises
-realises-fails t g r h e = all-below-fails (rows t) (agrees t g) r h e
+realises-fails : (t : Table) (g : Gate) (r : ℕ) → r < rows t → agrees t g r ≡ false → realises (g .weights) (g .threshold) (functionOf t) ≡ false
+realises-fails t g r h e = table-realises-test t (g .weights) (g .threshold) ∙ all-below-fails (rows t) (agrees t g) r h e
 
 -- where they agree on every row, it does
-realises-all : (t : Table) (g : Gate) → allBelow (rows t) (agrees t g) ≡ true → realises t g ≡ true
-unfolding realises
-realises-all t g e = e
+realises-all : (t : Table) (g : Gate) → allBelow (rows t) (agrees t g) ≡ true → realises (g .weights) (g .threshold) (functionOf t) ≡ true
+realises-all t g e = table-realises-test t (g .weights) (g .threshold) ∙ e
 
 abbrev Inv-loop : tie.InvT-loop
 Inv-loop table gate rows row₀ row = (row ≤ rows) × (allBelow row (agrees table gate) ≡ true)
 
 abbrev μ-loop : tie.MeasureT-loop
 μ-loop table gate rows row₀ row = rows - row
-
-row-count-requires : tie.Need-row-count-requires Inv-loop μ-loop
-row-count-requires c κs = search needs
 
 loop-holds : tie.Need-loop-holds Inv-loop μ-loop
 loop-holds c = (omega arith, all-below-zero _)
@@ -63,14 +58,9 @@ tested c =
 returns : tie.Need-returns Inv-loop μ-loop
 returns c =
     let head = c .before .before .before .before in
-    let below : head .loop .row < rows (head .before .before .args .table) = omega (arith, head .before .row-count .ensures) in
-    sym (realises-fails _ _ _ below (tested (c .before) ∙ not-true _ (c .if1 .taken)))
-
-add-row : tie.Need-add-row Inv-loop μ-loop
-add-row c = search needs
-
-loop-less : tie.Need-loop-less Inv-loop μ-loop
-loop-less c = search needs
+    let a = head .before .before .args in
+    let below : head .loop .row < rows (a .table) = omega (arith, head .before .row-count .ensures) in
+    sym (realises-fails (a .table) (a .gate) _ below (tested (c .before) ∙ not-true _ (c .if1 .taken)))
 
 loop-again : tie.Need-loop-again Inv-loop μ-loop
 loop-again c =
@@ -79,8 +69,9 @@ loop-again c =
 
 returns-2 : tie.Need-returns-2 Inv-loop μ-loop
 returns-2 c =
-    let end : c .before .loop .row ≡ rows (c .before .before .before .args .table) = omega (arith, c .before .before .row-count .ensures) in
-    sym (realises-all _ _ (rw end at (c .before .loop .inv .1)))
+    let a = c .before .before .before .args in
+    let end : c .before .loop .row ≡ rows (a .table) = omega (arith, c .before .before .row-count .ensures) in
+    sym (realises-all (a .table) (a .gate) (rw end at (c .before .loop .inv .1)))
 
 pub gate-realises-spec : {M : Type 1} → statement M
 gate-realises-spec =
@@ -88,12 +79,12 @@ gate-realises-spec =
     (tie.spec
     Inv-loop
     μ-loop
-    row-count-requires
+    (λ c κs. search needs)
     loop-holds
     gate-true-requires
     row-value-requires
     returns
-    add-row
-    loop-less
+    (λ c. search needs)
+    (λ c. search needs)
     loop-again
     returns-2)

@@ -11,9 +11,6 @@ use Rattle.function.specs.Function.{level}
 use Rattle.table.proofs.gate.gate_true.Statement.{statement}
 use Rattle.table.proofs.gate.gate_true.Tie as tie
 
-row-distance-requires : tie.Need-row-distance-requires
-row-distance-requires c κs = search needs
-
 returns : tie.Need-returns
 returns c =
     let gate = c .before .before .before .args .gate in
@@ -24,4 +21,4 @@ returns c =
     ∙ ap (λ (th : ℤ). distance (gate .weights) th (level 2 (c .before .before .before .args .row))) read)
 
 pub gate-true-spec : {M : Type 1} → statement M
-gate-true-spec = tie.close (tie.spec row-distance-requires returns)
+gate-true-spec = tie.close (tie.spec (λ c κs. search needs) returns)

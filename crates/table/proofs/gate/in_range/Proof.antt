@@ -43,9 +43,6 @@ Inv-loop weights threshold n limit place₀ place = (place ≤ 8) × (allBelow p
 abbrev μ-loop : tie.MeasureT-loop
 μ-loop weights threshold n limit place₀ place = 8 - place
 
-is-within-requires : tie.Need-is-within-requires Inv-loop μ-loop
-is-within-requires c κs = search needs
-
 -- what the call says of T, which is passed on by its bits
 threshold-within : (c : tie.After-is-within Inv-loop μ-loop)
     → within (c .before .args .limit) (c .before .args .threshold) ≡ c .is-within .result
@@ -62,20 +59,11 @@ returns c =
 loop-holds : tie.Need-loop-holds Inv-loop μ-loop
 loop-holds c = (omega arith, all-below-zero _)
 
-weight-within-requires : tie.Need-weight-within-requires Inv-loop μ-loop
-weight-within-requires c κs = search needs
-
 returns-2 : tie.Need-returns-2 Inv-loop μ-loop
 returns-2 c =
     let test = c .before .before in
     let a = test .before .before .before .before .args in
     sym (out-by-weight (a .limit) (a .n) (a .weights) (a .threshold) (test .before .loop .place) (test .loop-test .taken) (sym (c .before .weight-within .ensures) ∙ not-true _ (c .if2 .taken)))
-
-add-place : tie.Need-add-place Inv-loop μ-loop
-add-place c = search needs
-
-loop-less : tie.Need-loop-less Inv-loop μ-loop
-loop-less c = search needs
 
 loop-again : tie.Need-loop-again Inv-loop μ-loop
 loop-again c =
@@ -96,12 +84,12 @@ in-range-spec =
     (tie.spec
     Inv-loop
     μ-loop
-    is-within-requires
+    (λ c κs. search needs)
     returns
     loop-holds
-    weight-within-requires
+    (λ c κs. search needs)
     returns-2
-    add-place
-    loop-less
+    (λ c. search needs)
+    (λ c. search needs)
     loop-again
     returns-3)

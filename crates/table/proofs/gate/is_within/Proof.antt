@@ -20,9 +20,6 @@ negation-fits : (n : ℕ) → n < 2 ^ 32 → SFits w64 (negℤ (pos n))
 negation-fits zero h = record { sfits = omega arith }
 negation-fits (suc n) h = record { sfits = omega arith }
 
-cast-most : tie.Need-cast-most
-cast-most c = search needs
-
 most-is : (c : tie.Start) → toZ w64 (c .args .limit) ≡ pos (c .args .limit)
 most-is c = toZ-pos w64 (omega (arith, c .fits .limit))
 
@@ -57,4 +54,4 @@ returns-2 : tie.Need-returns-2
 returns-2 c = c .if1 .left ∙ by-first (c .before) false (c .if1 .left)
 
 pub is-within-spec : {M : Type 1} → statement M
-is-within-spec = tie.close (tie.spec cast-most sub-if1 cast-if1 cast-result returns returns-2)
+is-within-spec = tie.close (tie.spec (λ c. search needs) sub-if1 cast-if1 cast-result returns returns-2)

@@ -50,15 +50,6 @@ abbrev μ-loop : tie.MeasureT-loop
 loop-holds : tie.Need-loop-holds Inv-loop μ-loop
 loop-holds c = (omega arith, (sym (weighted-sum-nil _), omega arith))
 
-shr-if1 : tie.Need-shr-if1 Inv-loop μ-loop
-shr-if1 c = search needs
-
-mul-sum : tie.Need-mul-sum Inv-loop μ-loop
-mul-sum c = search needs
-
-array-copy-out-sum : tie.Need-array-copy-out-sum Inv-loop μ-loop
-array-copy-out-sum c = search needs
-
 -- what is asked of the sum past the place at which the loop stands
 abbrev Next : tie.At-loop Inv-loop μ-loop → ℤ → Type 0
 Next c z = SumTo (c .before .args .t1) (c .before .args .row) (c .loop .place + 1) z
@@ -101,12 +92,6 @@ sum-read : (c : tie.After-sum Inv-loop μ-loop) (sum : ℕ)
     → Next (c .before .before .before) (toZ w64 sum)
 sum-read c sum e = rw (e, toZ-ofZ (add-sum c), wide-back w64 tt (weight-fits c)) (sum-with c)
 
-add-place : tie.Need-add-place Inv-loop μ-loop
-add-place c = search needs
-
-loop-less : tie.Need-loop-less Inv-loop μ-loop
-loop-less c = search needs
-
 loop-again : tie.Need-loop-again Inv-loop μ-loop
 loop-again c =
     ⊎-elim
@@ -141,13 +126,13 @@ row-distance-spec =
     Inv-loop
     μ-loop
     loop-holds
-    shr-if1
-    mul-sum
-    array-copy-out-sum
+    (λ c. search needs)
+    (λ c. search needs)
+    (λ c. search needs)
     cast-sum
     add-sum
-    add-place
-    loop-less
+    (λ c. search needs)
+    (λ c. search needs)
     loop-again
     cast-result
     sub-result

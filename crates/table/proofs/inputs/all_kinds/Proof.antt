@@ -30,23 +30,11 @@ abbrev μ-loop : tie.MeasureT-loop
 loop-holds : tie.Need-loop-holds Inv-loop μ-loop
 loop-holds c = (omega arith, filled-none (placeAt (c .args .table)) idle)
 
-kind-at-requires : tie.Need-kind-at-requires Inv-loop μ-loop
-kind-at-requires c κs = search needs
-
-array-set-from-places : tie.Need-array-set-from-places Inv-loop μ-loop
-array-set-from-places c = search needs
-
-add-place : tie.Need-add-place Inv-loop μ-loop
-add-place c = search needs
-
-loop-less : tie.Need-loop-less Inv-loop μ-loop
-loop-less c = search needs
-
 loop-again : tie.Need-loop-again Inv-loop μ-loop
 loop-again c =
     let at-head = c .before .before .loop in
     let f = placeAt (c .before .before .before .args .table) in
-    (omega arith, filled-more f idle (at-head .place) (omega arith) (at-head .inv .1) (ap placeOf (c .kind-at .ensures)))
+    (omega arith, filled-more f idle (at-head .place) (omega arith) (at-head .inv .1) (ap placeOf (c .input-kind-at .ensures)))
 
 returns : tie.Need-returns Inv-loop μ-loop
 unfolding kindsOf
@@ -57,13 +45,4 @@ returns c =
 pub all-kinds-spec : {M : Type 1} → statement M
 all-kinds-spec =
     tie.close
-    (tie.spec
-    Inv-loop
-    μ-loop
-    loop-holds
-    kind-at-requires
-    array-set-from-places
-    add-place
-    loop-less
-    loop-again
-    returns)
+    (tie.spec Inv-loop μ-loop loop-holds (λ c κs. search needs) (λ c. search needs) (λ c. search needs) (λ c. search needs) loop-again returns)

@@ -8,7 +8,7 @@ use borrow.Author.Count.{below-none, below-more}
 use borrow.Author.Needs.{needs}
 use Rattle.numbers.proofs.FirstLaws.{first-at, first-fails}
 use Rattle.table.specs.Table.{rows, functionOf}
-use Rattle.table.specs.Inputs.{found}
+use Rattle.table.specs.Inputs.{lowestOf}
 use Rattle.function.specs.Turns.{turnsAt}
 use Rattle.table.proofs.TableLaws.{rows-le}
 use Rattle.function.proofs.TurnLaws.{first-turn-search}
@@ -21,14 +21,8 @@ Inv-loop table to place rows row₀ row = (row ≤ rows) × (rows ≤ 256) × ((
 abbrev μ-loop : tie.MeasureT-loop
 μ-loop table to place rows row₀ row = rows - row
 
-row-count-requires : tie.Need-row-count-requires Inv-loop μ-loop
-row-count-requires c κs = search needs
-
 loop-holds : tie.Need-loop-holds Inv-loop μ-loop
 loop-holds c = (omega arith, omega (arith, rows-le (c .before .pre .0)), below-none _)
-
-turns-at-requires : tie.Need-turns-at-requires Inv-loop μ-loop
-turns-at-requires c κs = search needs
 
 returns : tie.Need-returns Inv-loop μ-loop
 returns c =
@@ -36,7 +30,7 @@ returns c =
     let a = c .before .before .before .before .before .args in
     let turns = turnsAt (functionOf (a .table)) (a .to) (a .place) in
     sym
-    (ap found
+    (ap lowestOf
     (first-turn-search (functionOf (a .table)) (a .to) (a .place)
     ∙ first-at turns (rows (a .table)) 0 (at-head .row)
     record {
@@ -45,12 +39,6 @@ returns c =
       passes = sym (c .before .turns-at .ensures) ∙ c .if1 .taken;
       before = λ r l h. at-head .inv .2 r h;
     }))
-
-add-row : tie.Need-add-row Inv-loop μ-loop
-add-row c = omega arith
-
-loop-less : tie.Need-loop-less Inv-loop μ-loop
-loop-less c = omega arith
 
 loop-again : tie.Need-loop-again Inv-loop μ-loop
 loop-again c =
@@ -62,21 +50,10 @@ returns-2 c =
     let a = c .before .before .before .args in
     let turns = turnsAt (functionOf (a .table)) (a .to) (a .place) in
     sym
-    (ap found
+    (ap lowestOf
     (first-turn-search (functionOf (a .table)) (a .to) (a .place)
     ∙ first-fails turns (rows (a .table)) 0 (λ r l h. c .before .loop .inv .2 r (omega arith))))
 
 pub first-turn-spec : {M : Type 1} → statement M
 first-turn-spec =
-    tie.close
-    (tie.spec
-    Inv-loop
-    μ-loop
-    row-count-requires
-    loop-holds
-    turns-at-requires
-    returns
-    add-row
-    loop-less
-    loop-again
-    returns-2)
+    tie.close (tie.spec Inv-loop μ-loop (λ c κs. search needs) loop-holds (λ c κs. search needs) returns (λ c. omega arith) (λ c. omega arith) loop-again returns-2)

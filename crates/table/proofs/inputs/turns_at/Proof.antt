@@ -10,14 +10,8 @@ use Rattle.table.proofs.InputLaws.{same-bool-read, turns-at-has, turns-
 use Rattle.table.proofs.inputs.turns_at.Statement.{statement}
 use Rattle.table.proofs.inputs.turns_at.Tie as tie
 
-shr-if1 : tie.Need-shr-if1
-shr-if1 c = search needs
-
 returns : tie.Need-returns
 returns c = let a = c .before .args in sym (turns-at-has (a .table) (a .to) (a .place) (a .row) (c .if1 .taken))
-
-shl-partner : tie.Need-shl-partner
-shl-partner c = search needs
 
 lacks : (c : tie.Else1) → level 2 (c .before .args .row) (c .before .args .place) ≡ 0
 lacks c = omega (arith, c .if1 .left, level-lt (c .before .args .row) (c .before .args .place))
@@ -31,9 +25,6 @@ shifted c = rw one-mul (mod-eq-of-lt (omega (arith, partner c)))
 
 add-partner : tie.Need-add-partner
 add-partner c = rw (shifted c) (omega (arith, partner c))
-
-row-value-requires : tie.Need-row-value-requires
-row-value-requires c κs = search needs
 
 returns-2 : tie.Need-returns-2
 returns-2 c =
@@ -54,13 +45,4 @@ returns-3 c =
 
 pub turns-at-spec : {M : Type 1} → statement M
 turns-at-spec =
-    tie.close
-    (tie.spec
-    shr-if1
-    returns
-    shl-partner
-    add-partner
-    row-value-requires
-    returns-2
-    row-value-requires-2
-    returns-3)
+    tie.close (tie.spec (λ c. search needs) returns (λ c. search needs) add-partner (λ c κs. search needs) returns-2 row-value-requires-2 returns-3)

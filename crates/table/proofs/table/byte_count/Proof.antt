@@ -5,14 +5,8 @@ use Rattle.table.proofs.TableLaws.{rows-le}
 use Rattle.table.proofs.table.byte_count.Statement.{statement}
 use Rattle.table.proofs.table.byte_count.Tie as tie
 
-row-count-requires : tie.Need-row-count-requires
-row-count-requires c κs = search needs
-
 add-result : tie.Need-add-result
 add-result c = omega (arith, c .row-count .ensures, rows-le (c .before .pre))
 
-returns : tie.Need-returns
-returns c = search needs
-
 pub byte-count-spec : {M : Type 1} → statement M
-byte-count-spec = tie.close (tie.spec row-count-requires add-result returns)
+byte-count-spec = tie.close (tie.spec (λ c κs. search needs) add-result (λ c. search needs))

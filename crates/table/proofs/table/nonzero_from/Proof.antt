@@ -17,24 +17,12 @@ Inv-loop from bytes at₀ at = (at ≤ 32) × (allAtMost 0 (drop at bytes) ≡ a
 abbrev μ-loop : tie.MeasureT-loop
 μ-loop from bytes at₀ at = 32 - at
 
-loop-holds : tie.Need-loop-holds Inv-loop μ-loop
-loop-holds c = search needs
-
-array-read-if1 : tie.Need-array-read-if1 Inv-loop μ-loop
-array-read-if1 c = search needs
-
 returns : tie.Need-returns Inv-loop μ-loop
 returns c =
     let head = c .before .before in
     let bytes = head .before .args .t1 in
     let size : length bytes ≡ 32 = search needs in
     ap not (sym (all-at-most-fails 0 bytes (head .loop .at) (omega arith) (omega (arith, c .if1 .taken))) ∙ head .loop .inv .1)
-
-add-at : tie.Need-add-at Inv-loop μ-loop
-add-at c = search needs
-
-loop-less : tie.Need-loop-less Inv-loop μ-loop
-loop-less c = search needs
 
 loop-again : tie.Need-loop-again Inv-loop μ-loop
 loop-again c =
@@ -51,14 +39,4 @@ returns-2 c =
 
 pub nonzero-from-spec : {M : Type 1} → statement M
 nonzero-from-spec =
-    tie.close
-    (tie.spec
-    Inv-loop
-    μ-loop
-    loop-holds
-    array-read-if1
-    returns
-    add-at
-    loop-less
-    loop-again
-    returns-2)
+    tie.close (tie.spec Inv-loop μ-loop (λ c. search needs) (λ c. search needs) returns (λ c. search needs) (λ c. search needs) loop-again returns-2)

@@ -6,11 +6,8 @@ use Rattle.table.proofs.TableLaws.{rows-le}
 use Rattle.table.proofs.table.row_count.Statement.{statement}
 use Rattle.table.proofs.table.row_count.Tie as tie
 
-shl-result : tie.Need-shl-result
-shl-result c = search needs
-
 returns : tie.Need-returns
 returns c = rw one-mul (mod-eq-of-lt (omega (arith, rows-le (c .pre))))
 
 pub row-count-spec : {M : Type 1} → statement M
-row-count-spec = tie.close (tie.spec shl-result returns)
+row-count-spec = tie.close (tie.spec (λ c. search needs) returns)

@@ -30,12 +30,6 @@ first-filled c =
     (λ w. byte-filled (w .left) (byte .fits))
     (c .if1 .came)
 
-array-read-if2 : tie.Need-array-read-if2
-array-read-if2 c = search needs
-
-row-count-requires : tie.Need-row-count-requires
-row-count-requires c κs = search needs
-
 cast-if2 : tie.Need-cast-if2
 cast-if2 c = omega (arith, few-rows c)
 
@@ -48,9 +42,6 @@ returns c =
     let first = getD (table .bytes) 0 0 in
     let above : 2 ^ c .before .row-count .result ≤ first = shift-some first (c .before .row-count .result) (c .if2 .taken) in
     sym (spare-first (table .n) (table .bytes) (subst (λ (rows : ℕ). 2 ^ rows ≤ first) (c .before .row-count .ensures) above))
-
-byte-count-requires : tie.Need-byte-count-requires
-byte-count-requires c κs = search needs
 
 nonzero-from-requires : tie.Need-nonzero-from-requires
 nonzero-from-requires c κs = omega (arith, c .byte-count .ensures, bytes-le (c .before .before .before .pre))
@@ -65,13 +56,4 @@ returns-2 c =
 
 pub spare-set-spec : {M : Type 1} → statement M
 spare-set-spec =
-    tie.close
-    (tie.spec
-    array-read-if2
-    row-count-requires
-    cast-if2
-    shr-if2
-    returns
-    byte-count-requires
-    nonzero-from-requires
-    returns-2)
+    tie.close (tie.spec (λ c. search needs) (λ c κs. search needs) cast-if2 shr-if2 returns (λ c κs. search needs) nonzero-from-requires returns-2)

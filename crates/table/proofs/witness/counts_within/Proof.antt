@@ -16,27 +16,12 @@ Inv-loop from limit counts row₀ row = (row ≤ 256) × (allAtMost limit (drop 
 abbrev μ-loop : tie.MeasureT-loop
 μ-loop from limit counts row₀ row = 256 - row
 
-loop-holds : tie.Need-loop-holds Inv-loop μ-loop
-loop-holds c = search needs
-
-mul-if1 : tie.Need-mul-if1 Inv-loop μ-loop
-mul-if1 c = omega arith
-
-array-read-if1 : tie.Need-array-read-if1 Inv-loop μ-loop
-array-read-if1 c = omega arith
-
 returns : tie.Need-returns Inv-loop μ-loop
 returns c =
     let a = c .before .before .before .args in
     let at-test = c .before .before .loop in
     let n : length (a .t1) ≡ 256 = search needs in
     sym (all-at-most-fails (a .limit) (a .t1) (at-test .row) (omega arith) (c .if1 .taken)) ∙ at-test .inv .1
-
-add-row : tie.Need-add-row Inv-loop μ-loop
-add-row c = omega arith
-
-loop-less : tie.Need-loop-less Inv-loop μ-loop
-loop-less c = omega arith
 
 loop-again : tie.Need-loop-again Inv-loop μ-loop
 loop-again c =
@@ -54,15 +39,4 @@ returns-2 c =
 
 pub counts-within-spec : {M : Type 1} → statement M
 counts-within-spec =
-    tie.close
-    (tie.spec
-    Inv-loop
-    μ-loop
-    loop-holds
-    mul-if1
-    array-read-if1
-    returns
-    add-row
-    loop-less
-    loop-again
-    returns-2)
+    tie.close (tie.spec Inv-loop μ-loop (λ c. search needs) (λ c. omega arith) (λ c. omega arith) returns (λ c. omega arith) (λ c. omega arith) loop-again returns-2)

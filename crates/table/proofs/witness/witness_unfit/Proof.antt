@@ -7,15 +7,9 @@ use Rattle.table.proofs.TableLaws.{rows-le}
 use Rattle.table.proofs.witness.witness_unfit.Statement.{statement}
 use Rattle.table.proofs.witness.witness_unfit.Tie as tie
 
-counts-within-requires : tie.Need-counts-within-requires
-counts-within-requires c κs = search needs
-
 returns : tie.Need-returns
 unfolding unfit
 returns c = rw (← c .before .counts-within .ensures, c .if1 .taken)
-
-counts-within-requires-2 : tie.Need-counts-within-requires-2
-counts-within-requires-2 c κs = search needs
 
 returns-2 : tie.Need-returns-2
 unfolding unfit
@@ -27,9 +21,6 @@ returns-2 c =
       ← c .before .counts-within2 .ensures,
       not-true (c .before .counts-within2 .result) (c .if2 .taken),
     )
-
-row-count-requires : tie.Need-row-count-requires
-row-count-requires c κs = search needs
 
 counts-within-requires-3 : tie.Need-counts-within-requires-3
 counts-within-requires-3 c κs = omega (arith, rows-le (c .before .before .before .before .before .before .pre))
@@ -50,12 +41,4 @@ returns-3 c =
 
 pub witness-unfit-spec : {M : Type 1} → statement M
 witness-unfit-spec =
-    tie.close
-    (tie.spec
-    counts-within-requires
-    returns
-    counts-within-requires-2
-    returns-2
-    row-count-requires
-    counts-within-requires-3
-    returns-3)
+    tie.close (tie.spec (λ c κs. search needs) returns (λ c κs. search needs) returns-2 (λ c κs. search needs) counts-within-requires-3 returns-3)

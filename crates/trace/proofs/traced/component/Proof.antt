@@ -38,15 +38,6 @@ returns c =
     ∙ negation-is c
     ∙ ap (component v) (sym (c .before .if1 .taken))
 
-sub-result-2 : tie.Need-sub-result-2
-sub-result-2 c = search needs
-
-mul-result : tie.Need-mul-result
-mul-result c = search needs
-
-element-copy-out-result : tie.Need-element-copy-out-result
-element-copy-out-result c = search needs
-
 weight-fits : (c : tie.After-result) → SFits w32 (getD (c .before .before .args .t1 .a) (c .before .before .args .input - 1) (pos 0))
 weight-fits c = record { sfits = c .result .given }
 
@@ -61,13 +52,4 @@ returns-2 c =
 
 pub component-spec : {M : Type 1} → statement M
 component-spec =
-    tie.close
-    (tie.spec
-    cast-result
-    sub-result
-    returns
-    sub-result-2
-    mul-result
-    element-copy-out-result
-    cast-result-2
-    returns-2)
+    tie.close (tie.spec cast-result sub-result returns (λ c. search needs) (λ c. search needs) (λ c. search needs) cast-result-2 returns-2)

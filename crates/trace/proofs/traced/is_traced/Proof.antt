@@ -13,13 +13,11 @@ use mir.Val.{Fits}
 use borrow.Author.Needs.{needs}
 use borrow.Author.Tests.{eq-eqb, ne-eqb, not-true, not-false}
 use Rattle.numbers.specs.Tests.{allBelow, sameZ}
-use Rattle.numbers.specs.Tabulate.{tabulate}
 use Rattle.numbers.proofs.TestLaws.{and-both, all-below-zero, all-below-more, all-below-fails, all-below-cong}
-use Rattle.numbers.proofs.TabulateLaws.{getD-tabulate}
 use Rattle.function.specs.Witness.{sideSum, countOf}
 use Rattle.types.specs.declared.vector.Vector.{Vector}
 use Rattle.function.specs.Vector.{component}
-use Rattle.trace.proofs.SizeLaws.{side-sum-lt}
+use Rattle.sides.proofs.SideLaws.{side-sum-lt, sum-at}
 use Rattle.table.specs.Table.{functionOf}
 use Rattle.trace.proofs.traced.is_traced.Statement.{statement}
 use Rattle.trace.proofs.traced.is_traced.Tie as tie
@@ -42,12 +40,6 @@ Inv-loop v s mark k added taken n input₀ input = (n ≤ 8) × (input ≤ n + 1
 abbrev μ-loop : tie.MeasureT-loop
 μ-loop v s mark k added taken n input₀ input = n + 1 - input
 
-side-sums-requires : tie.Need-side-sums-requires Inv-loop μ-loop
-side-sums-requires c κs = search needs
-
-side-sums-requires-2 : tie.Need-side-sums-requires-2 Inv-loop μ-loop
-side-sums-requires-2 c κs = search needs
-
 -- the sum of a side at an input, of what was handed in
 abbrev sumOf : tie.Start Inv-loop μ-loop → Bool → ℕ → ℕ
 sumOf c side = sideSum (functionOf (c .args .table)) side (countOf (c .args .counts))
@@ -56,10 +48,6 @@ sumOf c side = sideSum (functionOf (c .args .table)) side (countOf (c .args .cou
 sum-lt : (c : tie.Start Inv-loop μ-loop) (side : Bool) (i : ℕ) → sumOf c side i < 2 ^ 40
 sum-lt c side i =
     side-sum-lt (c .args .table) side (c .args .counts) i (c .pre) (λ r. let f : Fits w32 (getD (c .args .counts) r 0) = search needs in omega arith)
-
--- an element of the sums that a call gave
-sum-at : {sums : List ℕ} (f : ℕ → ℕ) (i : ℕ) → sums ≡ tabulate 9 f → i < 9 → sumIn sums i ≡ f i
-sum-at f i e h = ap (λ (l : List ℕ). sumIn l i) e ∙ getD-tabulate f 9 i 0 h
 
 module _ (c : tie.After-side-sums2 Inv-loop μ-loop) where
   abbrev start : tie.Start Inv-loop μ-loop
@@ -96,12 +84,6 @@ module _ (c : tie.After-side-sums2 Inv-loop μ-loop) where
   same-test i h =
       ap₂ (λ (a t : ℕ). sameZ (component (start .args .v) i +ℤ pos t) (component (start .args .s) i +ℤ pos a)) (added-is i h) (taken-is i h)
 
-array-read-if1 : tie.Need-array-read-if1 Inv-loop μ-loop
-array-read-if1 c = search needs
-
-array-read-if1-2 : tie.Need-array-read-if1-2 Inv-loop μ-loop
-array-read-if1-2 c = search needs
-
 add-if1 : tie.Need-add-if1 Inv-loop μ-loop
 add-if1 c = omega (arith, total-is c, sum-lt (start c) true 0, sum-lt (start c) false 0)
 
@@ -113,23 +95,8 @@ returns c =
     let a = start (c .before) .args in
     rw (ne-eqb _ (a .k) (λ e. c .if1 .taken (ap (λ (x : ℕ). x + a .mark) (total-is (c .before)) ∙ e)))
 
-cast-n : tie.Need-cast-n Inv-loop μ-loop
-cast-n c = search needs
-
 loop-holds : tie.Need-loop-holds Inv-loop μ-loop
 loop-holds c = (omega arith, omega arith, all-below-zero _)
-
-mul-traced-at : tie.Need-mul-traced-at Inv-loop μ-loop
-mul-traced-at c = omega arith
-
-array-read-traced-at : tie.Need-array-read-traced-at Inv-loop μ-loop
-array-read-traced-at c = omega arith
-
-mul-traced-at-2 : tie.Need-mul-traced-at-2 Inv-loop μ-loop
-mul-traced-at-2 c = omega arith
-
-array-read-traced-at-2 : tie.Need-array-read-traced-at-2 Inv-loop μ-loop
-array-read-traced-at-2 c = omega arith
 
 -- the sums, as the loop finds them
 abbrev sums : tie.At-loop Inv-loop μ-loop → tie.After-side-sums2 Inv-loop μ-loop
@@ -155,12 +122,6 @@ returns-2 c =
     let input = head .loop .input in
     fails-at (addsUp at) (start at .args .table .n) (test at) input (omega arith) (sym (same-test at input (omega arith)) ∙ sym (test-is (c .before)) ∙ not-true _ (c .if2 .taken))
 
-add-input : tie.Need-add-input Inv-loop μ-loop
-add-input c = omega arith
-
-loop-less : tie.Need-loop-less Inv-loop μ-loop
-loop-less c = omega arith
-
 loop-again : tie.Need-loop-again Inv-loop μ-loop
 loop-again c =
     let head = c .before .before .before .loop in
@@ -182,22 +143,22 @@ is-traced-spec =
     (tie.spec
     Inv-loop
     μ-loop
-    side-sums-requires
-    side-sums-requires-2
-    array-read-if1
-    array-read-if1-2
+    (λ c κs. search needs)
+    (λ c κs. search needs)
+    (λ c. search needs)
+    (λ c. search needs)
     add-if1
     add-if1-2
     returns
-    cast-n
+    (λ c. search needs)
     loop-holds
-    mul-traced-at
-    array-read-traced-at
-    mul-traced-at-2
-    array-read-traced-at-2
+    (λ c. omega arith)
+    (λ c. omega arith)
+    (λ c. omega arith)
+    (λ c. omega arith)
     traced-at-requires
     returns-2
-    add-input
-    loop-less
+    (λ c. omega arith)
+    (λ c. omega arith)
     loop-again
     returns-3)

@@ -34,12 +34,6 @@ current-small c = component-size (c .args .v) (c .args .input) (search needs) (�
 copied-small : (c : tie.Start) → let z = component (c .args .s) (c .args .input) in up z + dn z ≤ 2 ^ 31
 copied-small c = component-size (c .args .s) (c .args .input) (search needs) (λ place. search (needs, signed-fits-field))
 
-component-requires : tie.Need-component-requires
-component-requires c κs = search needs
-
-cast-result : tie.Need-cast-result
-cast-result c = search needs
-
 -- of v's component with what is taken, and of s's with what is added
 current-adds : (c : tie.After-component) → let a = c .before .args in
     SFits w64 (added (c .component .result) (a .taken)) × (added (c .component .result) (a .taken) ≡ component (a .v) (a .input) +ℤ pos (a .taken))
@@ -52,12 +46,6 @@ copied-adds c = adds _ (c .component2 .ensures) (copied-small (c .before .before
 add-result : tie.Need-add-result
 add-result c = current-adds c .0
 
-component-requires-2 : tie.Need-component-requires-2
-component-requires-2 c κs = search needs
-
-cast-result-2 : tie.Need-cast-result-2
-cast-result-2 c = search needs
-
 add-result-2 : tie.Need-add-result-2
 add-result-2 c = copied-adds c .0
 
@@ -69,12 +57,4 @@ returns c =
 
 pub traced-at-spec : {M : Type 1} → statement M
 traced-at-spec =
-    tie.close
-    (tie.spec
-    component-requires
-    cast-result
-    add-result
-    component-requires-2
-    cast-result-2
-    add-result-2
-    returns)
+    tie.close (tie.spec (λ c κs. search needs) (λ c. search needs) add-result (λ c κs. search needs) (λ c. search needs) add-result-2 returns)

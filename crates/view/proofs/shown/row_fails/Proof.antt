@@ -23,13 +23,7 @@ abbrev others : Job → ℕ → List Rule
 others j r = pastRows (j .table .n) r ∷ []
 
 abbrev verdict : Job → ℕ → Answered Bool
-verdict j r = answered (fails (functionOf (j .table)) (j .v) r)
-
-job-status-requires : tie.Need-job-status-requires
-job-status-requires c κs = search needs
-
-enum-known-status : tie.Need-enum-known-status
-enum-known-status c = search needs
+verdict j r = answered (fails (functionOf (j .table)) (j .state .v) r)
 
 returns : tie.Need-returns
 returns c =
@@ -66,9 +60,6 @@ returns-2 c =
 fails-at-requires : tie.Need-fails-at-requires
 fails-at-requires c κs = omega (arith, rows-le (few-inputs (c .before .before .before)))
 
-as-answer-requires : tie.Need-as-answer-requires
-as-answer-requires c κs = search needs
-
 returns-3 : tie.Need-returns-3
 returns-3 c =
     let told = c .before .before .before .before .before in
@@ -81,12 +72,12 @@ pub row-fails-spec : {M : Type 1} → statement M
 row-fails-spec =
     tie.close
     (tie.spec
-    job-status-requires
-    enum-known-status
+    (λ c κs. search needs)
+    (λ c. search needs)
     returns
     enum-told
     row-count-requires
     returns-2
     fails-at-requires
-    as-answer-requires
+    (λ c κs. search needs)
     returns-3)

@@ -11,12 +11,6 @@ use Rattle.job.proofs.JobChecked.{job-refused, job-passed}
 use Rattle.view.proofs.shown.show.Statement.{statement}
 use Rattle.view.proofs.shown.show.Tie as tie
 
-job-status-requires : tie.Need-job-status-requires
-job-status-requires c κs = search needs
-
-enum-known-status : tie.Need-enum-known-status
-enum-known-status c = search needs
-
 shown-bare-requires : tie.Need-shown-bare-requires
 shown-bare-requires c κs = search needs
 
@@ -24,7 +18,7 @@ returns : tie.Need-returns
 returns c =
     let at = c .before .before .before .before in
     let j = at .before .args .job in
-    c .shown-bare .ensures ∙ ap shown (job-refused j (at .job-status .ensures) [] (answered (shownIn (j .stage) j)) (c .before .before .status .given .1))
+    c .shown-bare .ensures ∙ ap shown (job-refused j (at .job-status .ensures) [] (answered (shownIn (j .state .stage) j)) (c .before .before .status .given .1))
 
 enum-told : tie.Need-enum-told
 enum-told c = search needs
@@ -33,66 +27,45 @@ enum-told c = search needs
 abbrev job : tie.After-enum-told → Job
 job c = c .before .before .before .args .job
 
-passed : (c : tie.After-enum-told) (x : Stage) {s : Shown} → s ≡ shownIn x (job c) → job c .stage ≡ x → s ≡ shown (showJob (job c))
+passed : (c : tie.After-enum-told) (x : Stage) {s : Shown} → s ≡ shownIn x (job c) → job c .state .stage ≡ x → s ≡ shown (showJob (job c))
 passed c x e is =
     let j = job c in
     e
     ∙ ap (λ (y : Stage). shownIn y j) (sym is)
-    ∙ ap shown (job-passed j (c .before .before .job-status .ensures) [] (answered (shownIn (j .stage) j)) (c .enum-told .given .1))
-
-enum-told-2 : tie.Need-enum-told-2
-enum-told-2 c = search needs
-
-shown-bare-requires-2 : tie.Need-shown-bare-requires-2
-shown-bare-requires-2 c κs = search needs
-
-enum-told-3 : tie.Need-enum-told-3
-enum-told-3 c = search needs
-
-shown-gate-requires : tie.Need-shown-gate-requires
-shown-gate-requires c κs = search needs
-
-enum-told-4 : tie.Need-enum-told-4
-enum-told-4 c = search needs
+    ∙ ap shown (job-passed j (c .before .before .job-status .ensures) [] (answered (shownIn (j .state .stage) j)) (c .enum-told .given .1))
 
 shown-witness-requires : tie.Need-shown-witness-requires
 shown-witness-requires c κs = search needs
 
-enum-told-5 : tie.Need-enum-told-5
-enum-told-5 c = search needs
-
-shown-witness-requires-2 : tie.Need-shown-witness-requires-2
-shown-witness-requires-2 c κs = search needs
-
 returns-2 : tie.Need-returns-2
-returns-2 c = passed (c .before .before .before) _ (c .shown-bare2 .ensures) (c .before .enum-told2 .given .1)
+returns-2 c = passed (c .before .before .before .before) _ (c .shown-bare2 .ensures) (c .before .enum-told2 .given .1)
 
 returns-3 : tie.Need-returns-3
-returns-3 c = passed (c .before .before .before) _ (c .shown-gate .ensures) (c .before .enum-told3 .given .1)
+returns-3 c = passed (c .before .before .before .before) _ (c .shown-gate .ensures) (c .before .enum-told3 .given .1)
 
 returns-4 : tie.Need-returns-4
-returns-4 c = passed (c .before .before .before) _ (c .shown-witness .ensures) (c .before .enum-told4 .given .1)
+returns-4 c = passed (c .before .before .before .before) _ (c .shown-witness .ensures) (c .before .enum-told4 .given .1)
 
 returns-5 : tie.Need-returns-5
-returns-5 c = passed (c .before .before .before) _ (c .shown-witness2 .ensures) (c .before .enum-told5 .given .1)
+returns-5 c = passed (c .before .before .before .before) _ (c .shown-witness2 .ensures) (c .before .enum-told5 .given .1)
 
 pub show-spec : {M : Type 1} → statement M
 show-spec =
     tie.close
     (tie.spec
-    job-status-requires
-    enum-known-status
+    (λ c κs. search needs)
+    (λ c. search needs)
     shown-bare-requires
     returns
     enum-told
-    enum-told-2
-    shown-bare-requires-2
-    enum-told-3
-    shown-gate-requires
-    enum-told-4
+    (λ c. search needs)
+    (λ c κs. search needs)
+    (λ c. search needs)
+    (λ c κs. search needs)
+    (λ c. search needs)
     shown-witness-requires
-    enum-told-5
-    shown-witness-requires-2
+    (λ c. search needs)
+    (λ c κs. search needs)
     returns-2
     returns-3
     returns-4

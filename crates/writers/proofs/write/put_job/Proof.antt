@@ -1,17 +1,21 @@
 -- `writers::write::put_job` meets its contract: the head, K, v and s, and the row list in the rest of the buffer. Assumes nothing.
-use mathlib.Core.Path.{sym, _∙_, ap}
+use mathlib.Core.Path.{_≡_, sym, _∙_, ap}
 use mathlib.Core.List.{List, _++_}
 use Prim.Native.Nat.{ℕ, _+_, _≤_}
 use native.Mathlib.Omega.{arith}
 use lib.ListN.{length, length-append}
 use borrow.Author.Needs.{needs}
 use Rattle.job.specs.declared.job.Job.{Job}
-use Rattle.codec.specs.Field.{writtenAt}
+use Rattle.table.proofs.TableLaws.{rows-le}
+use Rattle.codec.specs.Written.{writtenAt, Put}
 use Rattle.codec.specs.RowList.{rowListBytes}
-use Rattle.codec.specs.Head.{headBytes}
+use Rattle.codec.specs.TableField.{headBytes}
 use Rattle.writers.proofs.RecordParts.{savable}
-use Rattle.writers.proofs.WriteLaws.{Filled, filled-start, filled-room, filled-rest, filled-on, filled-part}
-use Rattle.writers.proofs.JobBytes.{numbers, fields, job-parts}
+use Rattle.codec.proofs.WrittenLaws.{written-room, written-rest, written-next, written-part}
+use Rattle.writers.specs.Calls.{numbersBytes}
+use Rattle.codec.proofs.NumberLaws.{number-length}
+use Rattle.writers.proofs.WriteLaws.{head-most, vector-most, rows-most}
+use Rattle.writers.proofs.JobBytes.{fields, job-parts, job-count}
 use Rattle.writers.proofs.write.put_job.Statement.{statement}
 use Rattle.writers.proofs.write.put_job.Tie as tie
 
@@ -29,35 +33,35 @@ module _ (c : tie.Start) where
   room : 0 + length (fields job) ≤ length old
   room = omega (arith, c .pre .3, ap length (job-parts job))
 
-  room-numbers : 0 + length (head ++ numbers job) ≤ length old
-  room-numbers = omega (arith, room, length-append (head ++ numbers job) (rowListBytes (job .counts)))
+  room-numbers : 0 + length (head ++ numbersBytes job) ≤ length old
+  room-numbers = omega (arith, room, length-append (head ++ numbersBytes job) (rowListBytes (job .state .counts)))
 
 put-head-requires : tie.Need-put-head-requires
 put-head-requires c κs =
     let s = c .before .before .before .before in
-    (s .pre .0, omega (arith, room-numbers s, length-append (head s) (numbers (job s))))
+    (s .pre .0, omega (arith, room-numbers s, length-append (head s) (numbersBytes (job s))))
 
 -- after the head
-head-put : (c : tie.After-put-head) → let s = c .before .before .before .before .before in Filled (old s) 0 (head s) (c .put-head .result) (c .put-head .last .0)
-head-put c = let s = c .before .before .before .before .before in filled-start (old s) (head s) (c .put-head .ensures)
+head-put : (c : tie.After-put-head) → let s = c .before .before .before .before .before in Put (old s) 0 (head s) (c .put-head .last .0) (c .put-head .result)
+head-put c = let s = c .before .before .before .before .before in (c .put-head .ensures)
 
 put-numbers-requires : tie.Need-put-numbers-requires
 put-numbers-requires c κs =
     let put = c .before .before .before in
     let s = put .before .before .before .before .before in
-    (s .pre .0, s .pre .1, filled-room (old s) 0 (head s) (numbers (job s)) (room-numbers s) (head-put put))
+    (s .pre .0, s .pre .1, written-room (old s) 0 (head s) (numbersBytes (job s)) (room-numbers s) (head-put put))
 
 -- after K, v and s
 module _ (c : tie.After-put-numbers) where
   abbrev start : tie.Start
   start = c .before .before .before .before .before .before .before .before .before
 
-  numbers-put : Filled (old start) 0 (head start ++ numbers (job start)) (c .put-numbers .result) (c .put-numbers .last .0)
+  numbers-put : Put (old start) 0 (head start ++ numbersBytes (job start)) (c .put-numbers .last .0) (c .put-numbers .result)
   numbers-put =
-      filled-on (old start) 0 (head start) (numbers (job start)) (room-numbers start) (head-put (c .before .before .before .before)) (c .put-numbers .ensures)
+      written-next (old start) 0 (head start) (numbersBytes (job start)) (room-numbers start) (head-put (c .before .before .before .before)) (c .put-numbers .ensures)
 
-  room-rows : c .put-numbers .result + length (rowListBytes (job start .counts)) ≤ length (c .put-numbers .last .0)
-  room-rows = filled-room (old start) 0 (head start ++ numbers (job start)) (rowListBytes (job start .counts)) (room start) numbers-put
+  room-rows : c .put-numbers .result + length (rowListBytes (job start .state .counts)) ≤ length (c .put-numbers .last .0)
+  room-rows = written-room (old start) 0 (head start ++ numbersBytes (job start)) (rowListBytes (job start .state .counts)) (room start) numbers-put
 
 sub-put-rows : tie.Need-sub-put-rows
 sub-put-rows c = omega (arith, room-rows (c .before .before))
@@ -65,31 +69,43 @@ sub-put-rows c = omega (arith, room-rows (c .before .before))
 part-put-rows-start : tie.Need-part-put-rows-start
 part-put-rows-start c = omega (arith, room-rows (c .before .before))
 
-part-put-rows-end : tie.Need-part-put-rows-end
-part-put-rows-end c = search needs
-
 put-rows-requires : tie.Need-put-rows-requires
 put-rows-requires c κs =
-    let put = c .before .before .before in
-    let s = start put in (
+    let put = c .before .before .before .before .before .before in
+    let s = start put in
+    rw (c .row-count .ensures) (
+      rows-le (s .pre .0),
+      s .pre .1 .past,
       savable (job s) (s .pre .1) (s .pre .2) .limit,
-      filled-rest (old s) 0 (head s ++ numbers (job s)) (rowListBytes (job s .counts)) (room s) (numbers-put put),
+      omega (arith, written-rest (old s) 0 (head s ++ numbersBytes (job s)) (rowListBytes (job s .state .counts)) (room s) (numbers-put put)),
     )
 
 add-result : tie.Need-add-result
 add-result c =
     let at = c .before .before in
-    omega (arith, room-rows (at .before .before .before .before), at .put-rows .ensures .0)
-
-same-length : tie.Need-same-length
-same-length c = search needs
+    let put = at .before .before .before .before .before .before .before in
+    let s = start put in
+    let j = job s in
+    let size : at .put-rows .result ≡ 0 + length (rowListBytes (j .state .counts)) = at .put-rows .ensures .0 in
+    omega (
+      arith,
+      size,
+      numbers-put put .0,
+      length-append (head s ++ numbersBytes j) (rowListBytes (j .state .counts)),
+      job-count j,
+      head-most 4 (j .table) (s .pre .0),
+      number-length (j .state .k),
+      vector-most (j .table .n) (j .state .v) (s .pre .0),
+      vector-most (j .table .n) (j .state .s) (s .pre .0),
+      rows-most (j .state .counts),
+    )
 
 returns : tie.Need-returns
 returns c =
     let at = c .before .before in
-    let put = at .before .before .before .before in
+    let put = at .before .before .before .before .before .before .before in
     let s = start put in
-    let filled = filled-part (old s) 0 (head s ++ numbers (job s)) (rowListBytes (job s .counts)) (room s) (numbers-put put) (at .put-rows .ensures) in (
+    let filled = written-part (old s) 0 (head s ++ numbersBytes (job s)) (rowListBytes (job s .state .counts)) (room s) (numbers-put put) (at .put-rows .ensures) in (
       omega (arith, filled .0, ap length (job-parts (job s))),
       filled .1 ∙ ap (λ (w : List ℕ). writtenAt (old s) 0 w) (sym (job-parts (job s))),
     )
@@ -102,8 +118,9 @@ put-job-spec =
     put-numbers-requires
     sub-put-rows
     part-put-rows-start
-    part-put-rows-end
+    (λ c. search needs)
+    (λ c κs. search needs)
     put-rows-requires
     add-result
-    same-length
+    (λ c. search needs)
     returns)

@@ -9,7 +9,8 @@ use Rattle.job.specs.Sound.{Sound}
 use Rattle.job.proofs.SoundLaws.{in-range-search, table-current, table-copied}
 use Rattle.codec.specs.Number.{numberBytes}
 use Rattle.codec.specs.VectorField.{vectorBytes}
-use Rattle.writers.proofs.WriteLaws.{Filled, filled-room, filled-on}
+use Rattle.codec.specs.Written.{Put}
+use Rattle.codec.proofs.WrittenLaws.{written-room, written-next}
 use Rattle.writers.proofs.write.put_numbers.Statement.{statement}
 use Rattle.writers.proofs.write.put_numbers.Tie as tie
 
@@ -24,13 +25,13 @@ module _ (c : tie.Start) where
   job = c .args .job
 
   abbrev number : List ℕ
-  number = numberBytes (job .k)
+  number = numberBytes (job .state .k)
 
   abbrev current : List ℕ
-  current = vectorBytes (job .table .n) (job .v)
+  current = vectorBytes (job .table .n) (job .state .v)
 
   abbrev copied : List ℕ
-  copied = vectorBytes (job .table .n) (job .s)
+  copied = vectorBytes (job .table .n) (job .state .s)
 
   abbrev sound : Sound job
   sound = c .pre .1
@@ -51,39 +52,36 @@ put-vector-requires : tie.Need-put-vector-requires
 put-vector-requires c κs =
     let put = c .before .before .before in
     let s = put .before .before .before in
-    let v = job s .v in (
+    let v = job s .state .v in (
       s .pre .0,
-      in-range-search (job s .k) (job s .table .n) (v .a) (v .b) (sound s .capped) (table-current (job s .table) (sound s)),
-      filled-room (old s) (from s) (number s) (current s) (room-current s) (put .put-number .ensures),
+      in-range-search (job s .state .k) (job s .table .n) (v .a) (v .b) (sound s .capped) (table-current (job s .table) (sound s)),
+      written-room (old s) (from s) (number s) (current s) (room-current s) (put .put-number .ensures),
     )
 
 -- after v
 current-put : (c : tie.After-put-vector) → let s = c .before .before .before .before .before .before .before in
-    Filled (old s) (from s) (number s ++ current s) (c .put-vector .result) (c .put-vector .last .0)
+    Put (old s) (from s) (number s ++ current s) (c .put-vector .last .0) (c .put-vector .result)
 current-put c =
     let put = c .before .before .before .before in
     let s = put .before .before .before in
-    filled-on (old s) (from s) (number s) (current s) (room-current s) (put .put-number .ensures) (c .put-vector .ensures)
+    written-next (old s) (from s) (number s) (current s) (room-current s) (put .put-number .ensures) (c .put-vector .ensures)
 
 put-vector-requires-2 : tie.Need-put-vector-requires-2
 put-vector-requires-2 c κs =
     let put = c .before .before .before in
     let s = put .before .before .before .before .before .before .before in
-    let v = job s .s in (
+    let v = job s .state .s in (
       s .pre .0,
-      in-range-search (job s .k) (job s .table .n) (v .a) (v .b) (sound s .capped) (table-copied (job s .table) (sound s)),
-      filled-room (old s) (from s) (number s ++ current s) (copied s) (room s) (current-put put),
+      in-range-search (job s .state .k) (job s .table .n) (v .a) (v .b) (sound s .capped) (table-copied (job s .table) (sound s)),
+      written-room (old s) (from s) (number s ++ current s) (copied s) (room s) (current-put put),
     )
-
-same-length : tie.Need-same-length
-same-length c = search needs
 
 returns : tie.Need-returns
 returns c =
     let wrote = c .before .before in
     let put = wrote .before .before .before .before in
     let s = put .before .before .before .before .before .before .before in
-    filled-on (old s) (from s) (number s ++ current s) (copied s) (room s) (current-put put) (wrote .put-vector2 .ensures)
+    written-next (old s) (from s) (number s ++ current s) (copied s) (room s) (current-put put) (wrote .put-vector2 .ensures)
 
 pub put-numbers-spec : {M : Type 1} → statement M
-put-numbers-spec = tie.close (tie.spec put-number-requires put-vector-requires put-vector-requires-2 same-length returns)
+put-numbers-spec = tie.close (tie.spec put-number-requires put-vector-requires put-vector-requires-2 (λ c. search needs) returns)

@@ -12,8 +12,8 @@ use Rattle.job.specs.declared.job.Job.{Job}
 use Rattle.job.proofs.JobChecked.{job-refused, job-passed, job-inputs, job-sound}
 use Rattle.records.specs.Record.{Record, ofJob, recordBytes}
 use Rattle.writers.specs.Calls.{hasEnded, tooShort, writeRecord}
-use Rattle.writers.proofs.RecordParts.{open-stage}
-use Rattle.writers.proofs.WriteLaws.{filled-start, write-refused, write-answered, roomed, no-room, with-room}
+use Rattle.job.proofs.MachineLaws.{open-stage}
+use Rattle.writers.proofs.WriteLaws.{write-refused, write-answered, roomed, no-room, with-room}
 use Rattle.writers.proofs.write.save.Statement.{statement}
 use Rattle.writers.proofs.write.save.Tie as tie
 
@@ -39,12 +39,6 @@ module _ (c : tie.Start) where
   abbrev bytes : Answered (List ℕ)
   bytes = answered (recordBytes x)
 
-job-status-requires : tie.Need-job-status-requires
-job-status-requires c κs = search needs
-
-enum-known-status : tie.Need-enum-known-status
-enum-known-status c = search needs
-
 returns : tie.Need-returns
 returns c =
     let at = c .before .before .before in
@@ -63,35 +57,34 @@ module _ (c : tie.After-enum-told) where
 
 -- ---- whether it has ended
 
-is-end-requires : tie.Need-is-end-requires
-is-end-requires c κs = search needs
-
 returns-2 : tie.Need-returns-2
 returns-2 c =
-    let told = c .before .before in
+    let told = c .before .before .before in
     let s = start told in
-    write-refused (x s) (old s) (past-job told (rule-broken 13 (last s) (bytes s) (sym (c .before .is-end .ensures) ∙ c .if1 .taken)))
+    write-refused (x s) (old s) (past-job told (rule-broken 13 (last s) (bytes s) (sym (c .before .is-ended .ensures) ∙ c .if1 .taken)))
 
-past-end : (c : tie.Else1) {next : Answered (List ℕ)} → let s = start (c .before .before) in next ≡ roomed (x s) (old s) → next ≡ writeRecord (x s) (length (old s))
+past-end : (c : tie.Else1) {next : Answered (List ℕ)} → let s = start (c .before .before .before) in next ≡ roomed (x s) (old s) → next ≡ writeRecord (x s) (length (old s))
 past-end c e =
-    let told = c .before .before in
+    let told = c .before .before .before in
     let s = start told in
-    past-job told (e ∙ rule-kept 13 (last s) (bytes s) (sym (c .before .is-end .ensures) ∙ c .if1 .left))
+    past-job told (e ∙ rule-kept 13 (last s) (bytes s) (sym (c .before .is-ended .ensures) ∙ c .if1 .left))
 
 -- ---- the room
 
 job-length-requires : tie.Need-job-length-requires
 job-length-requires c κs =
-    let told = c .before .before in
-    job-inputs (job (start told)) (told .before .before .job-status .ensures) (told .enum-told .given .1)
+    let told = c .before .before .before in
+    let j = job (start told) in
+    let says = told .before .before .job-status .ensures in
+    (job-inputs j says (told .enum-told .given .1), job-sound j says (told .enum-told .given .1))
 
 returns-3 : tie.Need-returns-3
 returns-3 c =
     let kept = c .before .before in
-    let s = start (kept .before .before) in
+    let s = start (kept .before .before .before) in
     write-refused (x s) (old s) (past-end kept (no-room (x s) (old s) (omega (arith, c .before .job-length .ensures, c .if2 .taken))))
 
-roomy : (c : tie.Else2) → let s = start (c .before .before .before .before) in length (recordBytes (x s)) ≤ length (old s)
+roomy : (c : tie.Else2) → let s = start (c .before .before .before .before .before) in length (recordBytes (x s)) ≤ length (old s)
 roomy c = omega (arith, c .before .job-length .ensures, c .if2 .left)
 
 -- ---- the bytes
@@ -100,35 +93,32 @@ put-job-requires : tie.Need-put-job-requires
 put-job-requires c κs =
     let room = c .before in
     let kept = room .before .before in
-    let told = kept .before .before in
+    let told = kept .before .before .before in
     let j = job (start told) in
     let says = told .before .before .job-status .ensures in
     let done = told .enum-told .given .1 in
-    (job-inputs j says done, job-sound j says done, open-stage (j .stage) (sym (kept .before .is-end .ensures) ∙ kept .if1 .left), roomy room)
-
-same-length : tie.Need-same-length
-same-length c = search needs
+    (job-inputs j says done, job-sound j says done, open-stage (j .state .stage) (sym (kept .before .is-ended .ensures) ∙ kept .if1 .left), omega (arith, roomy room))
 
 returns-4 : tie.Need-returns-4
 returns-4 c =
     let wrote = c .before .before in
     let room = wrote .before .before in
     let kept = room .before .before in
-    let s = start (kept .before .before) in
-    write-answered (x s) (old s) (past-end kept (with-room (x s) (old s) (roomy room))) (filled-start (old s) (recordBytes (x s)) (wrote .put-job .ensures))
+    let s = start (kept .before .before .before) in
+    write-answered (x s) (old s) (past-end kept (with-room (x s) (old s) (roomy room))) ((wrote .put-job .ensures))
 
 pub save-spec : {M : Type 1} → statement M
 save-spec =
     tie.close
     (tie.spec
-    job-status-requires
-    enum-known-status
+    (λ c κs. search needs)
+    (λ c. search needs)
     returns
     enum-told
-    is-end-requires
+    (λ c κs. search needs)
     returns-2
     job-length-requires
     returns-3
     put-job-requires
-    same-length
+    (λ c. search needs)
     returns-4)

@@ -8,17 +8,12 @@ use borrow.Author.Needs.{needs}
 use Rattle.types.specs.declared.table.Table.{Table}
 use Rattle.cell.specs.Refusal.{Answered, answered}
 use Rattle.cell.proofs.TableChecked.{table-refused, table-passed, table-inputs}
-use Rattle.records.specs.Record.{Record, ofTable, recordBytes}
+use Rattle.codec.specs.TableField.{headBytes}
+use Rattle.records.specs.Record.{Record, ofTable, bodyBytes, recordBytes}
 use Rattle.writers.specs.Calls.{tooShort, writeRecord}
-use Rattle.writers.proofs.WriteLaws.{filled-start, write-refused, write-answered, roomed, no-room, with-room}
+use Rattle.writers.proofs.WriteLaws.{write-refused, write-answered, roomed, no-room, with-room}
 use Rattle.writers.proofs.write.write_table.Statement.{statement}
 use Rattle.writers.proofs.write.write_table.Tie as tie
-
-table-status-requires : tie.Need-table-status-requires
-table-status-requires c κs = search needs
-
-enum-known-status : tie.Need-enum-known-status
-enum-known-status c = search needs
 
 returns : tie.Need-returns
 returns c =
@@ -52,7 +47,7 @@ head-length-requires : tie.Need-head-length-requires
 head-length-requires c κs = few c
 
 returns-2 : tie.Need-returns-2
-unfolding recordBytes
+unfolding recordBytes bodyBytes headBytes
 returns-2 c =
     let told = c .before .before in
     write-refused (x told) (old told) (passed told (no-room (x told) (old told) (omega (arith, c .before .head-length .ensures, c .if1 .taken))))
@@ -62,27 +57,24 @@ put-head-requires c κs =
     let measured = c .before .before in
     (few (measured .before), omega (arith, measured .head-length .ensures, c .before .if1 .left))
 
-same-length : tie.Need-same-length
-same-length c = search needs
-
 returns-3 : tie.Need-returns-3
-unfolding recordBytes
+unfolding recordBytes bodyBytes headBytes
 returns-3 c =
     let at = c .before .before in
     let room = at .before in
     let told = room .before .before .before in
-    write-answered (x told) (old told) (passed told (with-room (x told) (old told) (put-head-requires room (at .put-head .lifetimes) .1))) (filled-start (old told) (recordBytes (x told)) (at .put-head .ensures))
+    write-answered (x told) (old told) (passed told (with-room (x told) (old told) (omega (arith, put-head-requires room (at .put-head .lifetimes) .1)))) ((at .put-head .ensures))
 
 pub write-table-spec : {M : Type 1} → statement M
 write-table-spec =
     tie.close
     (tie.spec
-    table-status-requires
-    enum-known-status
+    (λ c κs. search needs)
+    (λ c. search needs)
     returns
     enum-told
     head-length-requires
     returns-2
     put-head-requires
-    same-length
+    (λ c. search needs)
     returns-3)

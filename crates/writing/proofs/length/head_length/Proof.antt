@@ -8,9 +8,6 @@ use Rattle.writing.proofs.HeadParts.{head-count}
 use Rattle.writing.proofs.length.head_length.Statement.{statement}
 use Rattle.writing.proofs.length.head_length.Tie as tie
 
-byte-count-requires : tie.Need-byte-count-requires
-byte-count-requires c κs = search needs
-
 add-result : tie.Need-add-result
 add-result c = omega (arith, bytes-le (c .before .pre))
 
@@ -21,4 +18,4 @@ returns c =
     omega (arith, head-count (a .kind) (a .table) (c .before .pre) long)
 
 pub head-length-spec : {M : Type 1} → statement M
-head-length-spec = tie.close (tie.spec byte-count-requires add-result returns)
+head-length-spec = tie.close (tie.spec (λ c κs. search needs) add-result returns)

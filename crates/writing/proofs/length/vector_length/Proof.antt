@@ -24,12 +24,6 @@ abbrev μ-loop : tie.MeasureT-loop
 loop-holds : tie.Need-loop-holds Inv-loop μ-loop
 loop-holds c = (search needs, rw weights-zero)
 
-mul-signed-code : tie.Need-mul-signed-code Inv-loop μ-loop
-mul-signed-code c = search needs
-
-array-copy-out-signed-code : tie.Need-array-copy-out-signed-code Inv-loop μ-loop
-array-copy-out-signed-code c = search needs
-
 signed-code-requires : tie.Need-signed-code-requires Inv-loop μ-loop
 signed-code-requires c κs = search needs
 
@@ -41,12 +35,6 @@ add-length c =
     let head = c .before .before .before .before in
     let weight = c .before .signed-code .result in
     omega (arith, head .loop .inv, weights-most (head .before .before .args .v .a) (head .loop .place), c .number-length .ensures, number-length weight)
-
-add-place : tie.Need-add-place Inv-loop μ-loop
-add-place c = search needs
-
-loop-less : tie.Need-loop-less Inv-loop μ-loop
-loop-less c = search needs
 
 -- what the calls say of the weight at a place
 weight-length : (c : tie.After-number-length Inv-loop μ-loop)
@@ -63,12 +51,6 @@ loop-again c =
     let head = c .before .before .before .before in
     let a = head .before .before .args .v .a in
     (omega arith, rw (weights-more a (head .loop .place), length-append, head .loop .inv .1, weight-length c))
-
-signed-code-requires-2 : tie.Need-signed-code-requires-2 Inv-loop μ-loop
-signed-code-requires-2 c κs = search needs
-
-number-length-requires-2 : tie.Need-number-length-requires-2 Inv-loop μ-loop
-number-length-requires-2 c κs = search needs
 
 add-result : tie.Need-add-result Inv-loop μ-loop
 add-result c =
@@ -91,15 +73,15 @@ vector-length-spec =
     Inv-loop
     μ-loop
     loop-holds
-    mul-signed-code
-    array-copy-out-signed-code
+    (λ c. search needs)
+    (λ c. search needs)
     signed-code-requires
     number-length-requires
     add-length
-    add-place
-    loop-less
+    (λ c. search needs)
+    (λ c. search needs)
     loop-again
-    signed-code-requires-2
-    number-length-requires-2
+    (λ c κs. search needs)
+    (λ c κs. search needs)
     add-result
     returns)

@@ -12,8 +12,8 @@ use borrow.Author.Needs.{needs}
 use Rattle.types.specs.declared.table.Table.{Table}
 use Rattle.table.specs.Table.{byteCount}
 use Rattle.table.proofs.TableLaws.{bytes-le}
-use Rattle.codec.specs.Field.{writtenAt}
-use Rattle.codec.specs.Head.{headBytes}
+use Rattle.codec.specs.Written.{writtenAt}
+use Rattle.codec.specs.TableField.{headBytes}
 use Rattle.codec.proofs.WrittenLaws.{written-all, written-copy, written-on}
 use Rattle.writing.proofs.HeadParts.{head-bytes, head-count}
 use Rattle.writing.proofs.put.put_head.Statement.{statement}
@@ -63,9 +63,6 @@ slice-write-out c = omega (arith, size (c .before))
 slice-write-out-2 : tie.Need-slice-write-out-2 Inv-loop μ-loop
 slice-write-out-2 c = simp length-set (omega (arith, size (c .before)))
 
-byte-count-requires : tie.Need-byte-count-requires Inv-loop μ-loop
-byte-count-requires c κs = search needs
-
 loop-holds : tie.Need-loop-holds Inv-loop μ-loop
 loop-holds c =
     let start = c .before .before .before in
@@ -81,12 +78,6 @@ slice-write-out-3 : tie.Need-slice-write-out-3 Inv-loop μ-loop
 slice-write-out-3 c =
     let start = c .before .before .before .before .before in
     omega (arith, c .before .loop .inv .2, begun-length start, size start, c .before .before .byte-count .ensures)
-
-add-i : tie.Need-add-i Inv-loop μ-loop
-add-i c = search needs
-
-loop-less : tie.Need-loop-less Inv-loop μ-loop
-loop-less c = search needs
 
 loop-again : tie.Need-loop-again Inv-loop μ-loop
 loop-again c =
@@ -108,7 +99,7 @@ returns c =
     let a = start .args in
     let count = c .before .before .byte-count .ensures in
     let end : c .before .loop .i ≡ byteCount (a .table .n) = omega arith in
-    (omega (arith, size start), c .before .loop .inv .1 ∙ rw end (head-copied (now (a .out)) (a .kind) (a .table) (start .pre .0) (long start) (start .pre .1)))
+    (omega (arith, size start), c .before .loop .inv .1 ∙ rw end (head-copied (now (a .out)) (a .kind) (a .table) (start .pre .0) (long start) (omega (arith, start .pre .1))))
 
 pub put-head-spec : {M : Type 1} → statement M
 put-head-spec =
@@ -118,13 +109,13 @@ put-head-spec =
     μ-loop
     slice-write-out
     slice-write-out-2
-    byte-count-requires
+    (λ c κs. search needs)
     loop-holds
     array-read-out
     add-out
     slice-write-out-3
-    add-i
-    loop-less
+    (λ c. search needs)
+    (λ c. search needs)
     loop-again
     add-result
     same-length

@@ -8,7 +8,7 @@ use lib.ListN.{length, length-set}
 use lib.Seq.{sets}
 use denote.Ref.{now}
 use borrow.Author.Needs.{needs}
-use Rattle.codec.specs.Field.{writtenAt}
+use Rattle.codec.specs.Written.{writtenAt}
 use Rattle.codec.specs.Number.{numberBytes}
 use Rattle.codec.proofs.NumberLaws.{number-one, number-two, number-three, number-length}
 use Rattle.codec.proofs.WrittenLaws.{written-all}
@@ -48,58 +48,22 @@ returns c =
 add-out : tie.Need-add-out
 add-out c = search needs
 
-cast-out-2 : tie.Need-cast-out-2
-cast-out-2 c = search needs
-
 slice-write-out-2 : tie.Need-slice-write-out-2
 slice-write-out-2 c = omega (arith, number-length (c .before .args .x))
 
-cast-out-3 : tie.Need-cast-out-3
-cast-out-3 c = search needs
-
-add-out-2 : tie.Need-add-out-2
-add-out-2 c = search needs
-
 slice-write-out-3 : tie.Need-slice-write-out-3
 slice-write-out-3 c = simp length-set (omega (arith, two c))
-
-add-result-2 : tie.Need-add-result-2
-add-result-2 c = search needs
-
-same-length-2 : tie.Need-same-length-2
-same-length-2 c = search needs
 
 returns-2 : tie.Need-returns-2
 returns-2 c =
     let a = c .before .before .args in
     (omega (arith, two c), rw add-one (stored (now (a .out)) (a .at) (a .x) _ (number-two (a .x) (c .before .if1 .left) (c .if2 .taken)) (c .before .before .pre .1)))
 
-add-out-3 : tie.Need-add-out-3
-add-out-3 c = search needs
-
-cast-out-4 : tie.Need-cast-out-4
-cast-out-4 c = search needs
-
-add-out-4 : tie.Need-add-out-4
-add-out-4 c = search needs
-
 slice-write-out-4 : tie.Need-slice-write-out-4
 slice-write-out-4 c = simp length-set (omega (arith, three c))
 
-cast-out-5 : tie.Need-cast-out-5
-cast-out-5 c = search needs
-
-add-out-5 : tie.Need-add-out-5
-add-out-5 c = search needs
-
 slice-write-out-5 : tie.Need-slice-write-out-5
 slice-write-out-5 c = simp length-set (omega (arith, three c))
-
-add-result-3 : tie.Need-add-result-3
-add-result-3 c = search needs
-
-same-length-3 : tie.Need-same-length-3
-same-length-3 c = search needs
 
 returns-3 : tie.Need-returns-3
 returns-3 c =
@@ -117,21 +81,21 @@ put-number-spec =
     same-length
     returns
     add-out
-    cast-out-2
+    (λ c. search needs)
     slice-write-out-2
-    cast-out-3
-    add-out-2
+    (λ c. search needs)
+    (λ c. search needs)
     slice-write-out-3
-    add-result-2
-    same-length-2
+    (λ c. search needs)
+    (λ c. search needs)
     returns-2
-    add-out-3
-    cast-out-4
-    add-out-4
+    (λ c. search needs)
+    (λ c. search needs)
+    (λ c. search needs)
     slice-write-out-4
-    cast-out-5
-    add-out-5
+    (λ c. search needs)
+    (λ c. search needs)
     slice-write-out-5
-    add-result-3
-    same-length-3
+    (λ c. search needs)
+    (λ c. search needs)
     returns-3)

@@ -18,7 +18,8 @@ use Rattle.machine.proofs.RangeLaws.{within-correct, in-range-correct, in-range
 use Rattle.codec.specs.Number.{numberBytes, signedCode}
 use Rattle.codec.specs.VectorField.{vectorBytes}
 use Rattle.codec.proofs.NumberLaws.{signed-small}
-use Rattle.codec.proofs.WrittenLaws.{Written, written-length, written-nil, written-room, written-next, turn-room, turn-written}
+use Rattle.codec.specs.Written.{Put}
+use Rattle.codec.proofs.WrittenLaws.{written-length, written-nil, written-room, written-next, next-room, next-written}
 use Rattle.codec.proofs.WeightLaws.{weights, weightAt, weights-zero, weights-more, vector-parts}
 use Rattle.writing.proofs.put.put_vector.Statement.{statement}
 use Rattle.writing.proofs.put.put_vector.Tie as tie
@@ -34,7 +35,7 @@ module _ (v : Vector) (fits : inRange weightLimit 8 (v .a) (v .b) ≡ true) wher
       signed-small weight (within-correct weightLimit weight .1 (in-range-at (in-range-correct weightLimit 8 (v .a) (v .b) .0 fits) place h))
 
 abbrev Inv-loop : tie.InvT-loop
-Inv-loop out₀ at n v a here₀ place₀ out here place = (place ≤ n) × Written out₀ at (weights a place) out here
+Inv-loop out₀ at n v a here₀ place₀ out here place = (place ≤ n) × Put out₀ at (weights a place) out here
 
 abbrev μ-loop : tie.MeasureT-loop
 μ-loop out₀ at n v a here₀ place₀ out here place = n - place
@@ -58,12 +59,6 @@ a-room c = omega (arith, room c, length-append (a-bytes c) (b-bytes c))
 loop-holds : tie.Need-loop-holds Inv-loop μ-loop
 loop-holds c = (search needs, rw weights-zero (omega arith, sym (written-nil (now (c .before .before .args .out)) (c .before .before .args .at))))
 
-mul-signed-code : tie.Need-mul-signed-code Inv-loop μ-loop
-mul-signed-code c = search needs
-
-array-copy-out-signed-code : tie.Need-array-copy-out-signed-code Inv-loop μ-loop
-array-copy-out-signed-code c = search needs
-
 signed-code-requires : tie.Need-signed-code-requires Inv-loop μ-loop
 signed-code-requires c κs = search needs
 
@@ -83,14 +78,8 @@ put-number-requires c κs =
     let place = head .loop .place in
     rw (code c) (
       weight-small (a .v) (start .pre .1) place (omega arith),
-      turn-room (weights (a .v .a)) (weightAt (a .v .a)) (weights-more (a .v .a)) (a .n) (now (a .out)) (a .at) (a-room start) place (omega arith) (head .loop .inv .1),
+      next-room (weights (a .v .a)) (weightAt (a .v .a)) (weights-more (a .v .a)) (a .n) (now (a .out)) (a .at) (a-room start) place (omega arith) (head .loop .inv .1),
     )
-
-add-place : tie.Need-add-place Inv-loop μ-loop
-add-place c = search needs
-
-loop-less : tie.Need-loop-less Inv-loop μ-loop
-loop-less c = search needs
 
 loop-again : tie.Need-loop-again Inv-loop μ-loop
 loop-again c =
@@ -100,11 +89,8 @@ loop-again c =
     let a = start .args in
     let wrote = rw (code coded) at (c .before .before .put-number .ensures) in (
       omega arith,
-      turn-written (weights (a .v .a)) (weightAt (a .v .a)) (weights-more (a .v .a)) (a .n) (now (a .out)) (a .at) (a-room start) (head .loop .place) (omega arith) (head .loop .inv .1) wrote,
+      next-written (weights (a .v .a)) (weightAt (a .v .a)) (weights-more (a .v .a)) (a .n) (now (a .out)) (a .at) (a-room start) (head .loop .place) (omega arith) (head .loop .inv .1) wrote,
     )
-
-signed-code-requires-2 : tie.Need-signed-code-requires-2 Inv-loop μ-loop
-signed-code-requires-2 c κs = search needs
 
 -- what the call says of b
 last : (c : tie.After-signed-code2 Inv-loop μ-loop) → c .signed-code2 .result ≡ signedCode (c .before .before .before .before .before .before .before .args .v .b)
@@ -144,14 +130,14 @@ put-vector-spec =
     Inv-loop
     μ-loop
     loop-holds
-    mul-signed-code
-    array-copy-out-signed-code
+    (λ c. search needs)
+    (λ c. search needs)
     signed-code-requires
     put-number-requires
-    add-place
-    loop-less
+    (λ c. search needs)
+    (λ c. search needs)
     loop-again
-    signed-code-requires-2
+    (λ c κs. search needs)
     put-number-requires-2
     same-length
     returns)

@@ -13,18 +13,15 @@ use Rattle.numbers.proofs.TestLaws.{or-neither}
 use Rattle.cell.specs.Refusal.{Rule, Answered, answered, checked}
 use Rattle.cell.specs.declared.refusal.Status.the-variants as Status′
 use Rattle.cell.proofs.RefusalLaws.{rule-broken, rule-kept}
-use Rattle.types.specs.declared.state.State.{State}
-use Rattle.state.specs.Machine as state-machine
-use Rattle.state.specs.Sound as state
 use Rattle.job.specs.declared.job.Job.{Job}
 use Rattle.types.specs.declared.stage.Stage.{Stage}
 use Rattle.types.specs.declared.stage.Stage.the-variants.{Open}
-use Rattle.job.specs.Machine.{jobOf, run}
+use Rattle.job.specs.Machine.{run}
 use Rattle.job.specs.Sound.{cap}
 use Rattle.job.specs.Calls.{callBudget, budgetRange, pastCap, ifOpen, carryOn, carried}
+use Rattle.job.proofs.MachineLaws.{open-stage, ended-stage}
 use Rattle.job.proofs.Soundness.{run-grows}
 use Rattle.job.proofs.JobChecked.{job-refused, job-passed, job-inputs, job-sound, if-open-ended}
-use Rattle.table.specs.Table.{functionOf}
 use Rattle.job.proofs.job.Job.carry_on.Statement.{statement}
 use Rattle.job.proofs.job.Job.carry_on.Tie as tie
 
@@ -36,15 +33,9 @@ abbrev opened : Job → ℕ → Answered Job
 opened j b = checked (pastCap j b ∷ []) (answered (run b j))
 
 abbrev verdict : Job → ℕ → Answered Job
-verdict j b = ifOpen (j .stage) (opened j b) (answered j)
+verdict j b = ifOpen (j .state .stage) (opened j b) (answered j)
 
 -- ---- the job's rules
-
-job-status-requires : tie.Need-job-status-requires
-job-status-requires c κs = search needs
-
-enum-known-status : tie.Need-enum-known-status
-enum-known-status c = search needs
 
 refused-requires : tie.Need-refused-requires
 refused-requires c κs = search needs
@@ -77,9 +68,6 @@ passed c e =
 
 -- ---- the budget's rule
 
-refused-requires-2 : tie.Need-refused-requires-2
-refused-requires-2 c κs = search needs
-
 returns-2 : tie.Need-returns-2
 returns-2 c =
     let told = c .before .before in
@@ -96,87 +84,63 @@ budgeted c e =
 
 -- ---- an ended job
 
-is-ended-requires : tie.Need-is-ended-requires
-is-ended-requires c κs = search needs
-
 returns-3 : tie.Need-returns-3
 returns-3 c =
-    let at = c .before .before in
+    let at = c .before .before .before in
     let j = self (at .before .before) in
-    let none-made : 0 ≡ j .k - j .k = omega arith in
+    let none-made : 0 ≡ j .state .k - j .state .k = omega arith in
     ap (λ (made : ℕ). record { status = Status′.Done; job = j; made = made }) none-made
-    ∙ budgeted at (if-open-ended (j .stage) (opened j (budget (at .before .before))) (answered j) (c .before .is-ended .ensures .0 (c .if3 .taken)))
+    ∙ budgeted at (if-open-ended (j .state .stage) (opened j (budget (at .before .before))) (answered j) (ended-stage _ (sym (c .before .is-ended .ensures) ∙ c .if3 .taken)))
 
 -- ---- an open job
 
 abbrev told : tie.Else3 → tie.After-enum-told
-told c = c .before .before .before .before
+told c = c .before .before .before .before .before
 
-is-open : (c : tie.Else3) → self (told c) .stage ≡ Open
-is-open c = c .before .is-ended .ensures .1 (c .if3 .left)
+is-open : (c : tie.Else3) → self (told c) .state .stage ≡ Open
+is-open c = open-stage _ (sym (c .before .is-ended .ensures) ∙ c .if3 .left)
 
 within : (c : tie.Else3) {next : Answered Job} → next ≡ opened (self (told c)) (budget (told c)) → ComesTo (told c) next
 within c e =
     let j = self (told c) in
-    budgeted (c .before .before) (e ∙ sym (ap (λ (x : Stage). ifOpen x (opened j (budget (told c))) (answered j)) (is-open c)))
+    budgeted (c .before .before .before) (e ∙ sym (ap (λ (x : Stage). ifOpen x (opened j (budget (told c))) (answered j)) (is-open c)))
 
 sub-if4 : tie.Need-sub-if4
-sub-if4 c = omega (arith, ltb-false callBudget (budget (told c)) (c .before .before .if2 .left))
-
-refused-requires-3 : tie.Need-refused-requires-3
-refused-requires-3 c κs = search needs
+sub-if4 c = omega (arith, ltb-false callBudget (budget (told c)) (c .before .before .before .if2 .left))
 
 returns-4 : tie.Need-returns-4
 returns-4 c =
     let at = c .before .before .before in
     let j = self (told at) in
     let b = budget (told at) in
-    let late : cap < j .k + b = omega (arith, sub-if4 at) in
-    c .refused3 .ensures ∙ within at (rule-broken 11 [] (answered (run b j)) (lt-ltb cap (j .k + b) late))
+    let late : cap < j .state .k + b = omega (arith, sub-if4 at) in
+    c .refused3 .ensures ∙ within at (rule-broken 11 [] (answered (run b j)) (lt-ltb cap (j .state .k + b) late))
 
 -- where K + budget is within the cap
-capped : (c : tie.Else4) → self (told (c .before .before)) .k + budget (told (c .before .before)) ≤ cap
+capped : (c : tie.Else4) → self (told (c .before .before)) .state .k + budget (told (c .before .before)) ≤ cap
 capped c = omega (arith, sub-if4 (c .before .before))
 
-step-table-requires : tie.Need-step-table-requires
-step-table-requires c κs = search needs
-
-state-of-requires : tie.Need-state-of-requires
-state-of-requires c κs = search needs
-
-steps-requires : tie.Need-steps-requires
-steps-requires c κs =
-    let left = c .before .before .before .before in
+run-requires : tie.Need-run-requires
+run-requires c κs =
+    let left = c .before .before .before in
     let at = left .before .before in
     let j = self (told at) in
-    let is = c .before .state-of .ensures in
     let says = told at .before .before .job-status .ensures in
-    let done = told at .enum-told .given .1 in (
-      job-inputs j says done,
-      subst (state.Sound (functionOf (j .table))) (sym is) (job-sound j says done),
-      omega (arith, capped left, ap (λ (x : State). x .k) is),
-      c .before .before .step-table .ensures,
-    )
+    let done = told at .enum-told .given .1 in
+    (job-inputs j says done, job-sound j says done, capped left, c .before .step-table .ensures)
 
-job-of-requires : tie.Need-job-of-requires
-job-of-requires c κs = search needs
+-- the table with the state after the steps is the machine's job
+abbrev stepped : tie.After-run → tie.Else4
+stepped c = c .before .before .before .before
 
--- the job of the state after the steps is the machine's
-abbrev stepped : tie.After-job-of → tie.Else4
-stepped c = c .before .before .before .before .before .before
-
-machine : (c : tie.After-job-of) → let at = told (stepped c .before .before) in c .job-of .result ≡ run (budget at) (self at)
+machine : (c : tie.After-run) → let at = told (stepped c .before .before) in record { table = self at .table; state = c .run .result } ≡ run (budget at) (self at)
 unfolding run
-machine c =
-    let at = told (stepped c .before .before) in
-    let t = self at .table in
-    let is = c .before .before .before .state-of .ensures in
-    c .job-of .ensures ∙ ap (jobOf t) (c .before .steps .ensures ∙ ap (state-machine.run (functionOf t) (budget at)) is)
+machine c = let t = self (told (stepped c .before .before)) .table in λ i. record { table = t; state = c .run .ensures i }
 
 sub-made : tie.Need-sub-made
 sub-made c =
     let at = told (stepped (c .before .before) .before .before) in
-    omega (arith, run-grows (self at) (budget at), ap (λ (j : Job). j .k) (machine (c .before .before)))
+    omega (arith, run-grows (self at) (budget at), ap (λ (j : Job). j .state .k) (machine (c .before .before)))
 
 returns-5 : tie.Need-returns-5
 returns-5 c =
@@ -184,27 +148,25 @@ returns-5 c =
     let at = left .before .before in
     let j = self (told at) in
     let b = budget (told at) in
-    within at (ap answered (machine (c .before .before)) ∙ rule-kept 11 [] (answered (run b j)) (le-ltb cap (j .k + b) (capped left)))
+    within at (ap answered (machine (c .before .before)) ∙ rule-kept 11 [] (answered (run b j)) (le-ltb cap (j .state .k + b) (capped left)))
 
 pub carry-on-spec : {M : Type 1} → statement M
 carry-on-spec =
     tie.close
     (tie.spec
-    job-status-requires
-    enum-known-status
+    (λ c κs. search needs)
+    (λ c. search needs)
     refused-requires
     returns
     enum-told
-    refused-requires-2
+    (λ c κs. search needs)
     returns-2
-    is-ended-requires
+    (λ c κs. search needs)
     returns-3
     sub-if4
-    refused-requires-3
+    (λ c κs. search needs)
     returns-4
-    step-table-requires
-    state-of-requires
-    steps-requires
-    job-of-requires
+    (λ c κs. search needs)
+    run-requires
     sub-made
     returns-5)

@@ -5,19 +5,10 @@ use borrow.Author.Needs.{needs}
 use Rattle.cell.specs.Refusal.{answered}
 use Rattle.cell.proofs.TableChecked.{table-refused, table-passed, table-inputs}
 use Rattle.job.specs.declared.job.Job.{Job}
-use Rattle.job.specs.Machine.{jobOf, fresh}
+use Rattle.job.specs.Machine.{fresh}
 use Rattle.job.specs.Calls.{started}
 use Rattle.job.proofs.job.Job.fresh.Statement.{statement}
 use Rattle.job.proofs.job.Job.fresh.Tie as tie
-
-table-status-requires : tie.Need-table-status-requires
-table-status-requires c κs = search needs
-
-enum-known-status : tie.Need-enum-known-status
-enum-known-status c = search needs
-
-not-started-requires : tie.Need-not-started-requires
-not-started-requires c κs = search needs
 
 returns : tie.Need-returns
 returns c =
@@ -31,17 +22,14 @@ enum-told c = search needs
 fresh-state-requires : tie.Need-fresh-state-requires
 fresh-state-requires c κs = table-inputs (c .before .before .before .args .table) (c .before .before .table-status .ensures) (c .enum-told .given .1)
 
-job-of-requires : tie.Need-job-of-requires
-job-of-requires c κs = search needs
-
--- the job of the fresh state is the fresh job
-made : (c : tie.After-job-of) → c .job-of .result ≡ fresh (c .before .before .before .before .before .args .table)
+-- the table with the fresh state is the fresh job
+made : (c : tie.After-fresh-state) → let t = c .before .before .before .before .args .table in record { table = t; state = c .fresh-state .result } ≡ fresh t
 unfolding fresh
-made c = c .job-of .ensures ∙ ap (jobOf (c .before .before .before .before .before .args .table)) (c .before .fresh-state .ensures)
+made c = λ i. record { table = c .before .before .before .before .args .table; state = c .fresh-state .ensures i }
 
 returns-2 : tie.Need-returns-2
 returns-2 c =
-    let told = c .before .before in
+    let told = c .before in
     let at = told .before .before in
     let t = at .before .args .table in
     ap (λ (j : Job). started t (answered j)) (made c)
@@ -51,11 +39,10 @@ pub fresh-spec : {M : Type 1} → statement M
 fresh-spec =
     tie.close
     (tie.spec
-    table-status-requires
-    enum-known-status
-    not-started-requires
+    (λ c κs. search needs)
+    (λ c. search needs)
+    (λ c κs. search needs)
     returns
     enum-told
     fresh-state-requires
-    job-of-requires
     returns-2)

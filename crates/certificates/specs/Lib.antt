@@ -1,0 +1,2 @@
+-- what a call looks at in a record that was read
+pub mod Certificate

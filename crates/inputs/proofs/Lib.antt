@@ -1,0 +1,2 @@
+-- how many bytes, and the byte at each position
+pub mod ByteLaws

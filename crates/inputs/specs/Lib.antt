@@ -1,0 +1,2 @@
+-- kinds and Chow's parameters as bytes
+pub mod Inputs

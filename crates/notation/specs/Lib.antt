@@ -1,0 +1,4 @@
+-- a gate as text
+pub mod GateText
+-- a witness as text
+pub mod WitnessText

@@ -1,0 +1,77 @@
+// A witness as text, written into a lent buffer at a position. Each function that writes returns the position after its text.
+use table::table::row_count;
+use table::table::row_value;
+use text::decimal::put_decimal;
+use text::field::put_byte;
+use text::field::put_letter;
+use text::field::put_number;
+use types::table::Table;
+ghost use mathlib.Core.Path.{_≡_};
+ghost use Prim.Native.Nat.{_+_, _*_, _≤_, _<_};
+ghost use lib.Count.{ones};
+ghost use lib.ListN.{length};
+ghost use Rattle.codec.specs.Written.{Room, Put};
+ghost use Rattle.notation.specs.WitnessText.{height, pairText, pairsText, witnessText};
+
+// Returns a row's count × its true inputs, which are counted in the bits of its number.
+fn row_height(row: usize, count: u32) -> u64
+    requires { ⌜ row < 256 ⌝ }
+    ensures { λ r. ⌜ (r ≡ count * ones row) × (r ≤ 34359738360) ⌝ }
+{
+    count as u64 * u32::count_ones(row as u32) as u64
+}
+
+// Returns the sum of count × true inputs over true rows.
+fn height_of(table: Table, counts: &[u32; 256]) -> u64
+    requires { ⌜ table .n ≤ 8 ⌝ }
+    ensures { λ r. ⌜ r ≡ height table (now (counts .entry)) ⌝ }
+{
+    let rows = row_count(table.n);
+    let mut sum: u64 = 0;
+    let mut row: usize = 0;
+    while row < rows {
+        if row_value(table, row) {
+            sum = sum + row_height(row, counts[row]);
+        }
+        row = row + 1;
+    }
+    sum
+}
+
+// Writes the pair of a row, or nothing if its count is 0.
+fn put_pair(out: &mut [u8], at: usize, row: u64, count: u32) -> usize
+    requires { ⌜ Room (now out) at (pairText row count) ⌝ }
+    ensures { λ r. ⌜ Put (now (out .entry)) at (pairText row count) (now (out .exit)) r ⌝ }
+{
+    if count == 0 {
+        return at;
+    }
+    let mut here = put_number(out, at, row);
+    here = put_byte(out, here, b':');
+    put_decimal(out, here, count as u64)
+}
+
+// Writes the pairs of so many rows.
+fn put_pairs(out: &mut [u8], at: usize, counts: &[u32; 256], rows: usize) -> usize
+    requires { ⌜ (rows ≤ 256) × Room (now out) at (pairsText (now counts) rows 0) ⌝ }
+    ensures { λ r. ⌜ Put (now (out .entry)) at (pairsText (now (counts .entry)) rows 0) (now (out .exit)) r ⌝ }
+{
+    let mut here = at;
+    let mut row: usize = 0;
+    while row < rows {
+        here = put_pair(out, here, row as u64, counts[row]);
+        row = row + 1;
+    }
+    here
+}
+
+// Writes N, K, height and pairs.
+pub fn put_witness(out: &mut [u8], at: usize, k: u32, table: Table, counts: &[u32; 256]) -> usize
+    requires { ⌜ (table .n ≤ 8) × Room (now out) at (witnessText k table (now counts)) ⌝ }
+    ensures { λ r. ⌜ Put (now (out .entry)) at (witnessText k table (now (counts .entry))) (now (out .exit)) r ⌝ }
+{
+    let mut here = put_letter(out, at, b'N');
+    here = put_number(out, here, k as u64);
+    here = put_number(out, here, height_of(table, counts));
+    put_pairs(out, here, counts, row_count(table.n))
+}

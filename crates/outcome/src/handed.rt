@@ -1,0 +1,36 @@
+// A table decided and a job carried on, with what is handed back: the bytes of what the job has come to, and the corrections made.
+use crate::outcome::put_outcome;
+use cell::refusal::Status;
+use job::job::Job;
+use results::result::refusal;
+use stepping::decided::decided_alone;
+use types::table::Table;
+ghost use mathlib.Core.List.{[]};
+ghost use lib.ListN.{length};
+ghost use Rattle.cell.specs.Refusal.{NoneBroken};
+ghost use Rattle.cell.specs.Calls.{tableRules};
+ghost use Rattle.outcome.specs.Outcome.{HandedOver, decidedBack, carriedBack};
+
+// Decides a table: writes its gate, its witness, or the job that is open after 100,000 corrections, and sets `made` to the corrections made.
+// Returns the length, or the refusal: 12.
+pub fn decide_table(table: Table, out: &mut [u8], made: &mut u32) -> i64
+    requires { ⌜ NoneBroken (tableRules table []) ⌝ }
+    ensures { λ r. ⌜ HandedOver (decidedBack (length (now (out .entry))) table) (now (out .entry)) (now (made .entry)) r (now (out .exit)) (now (made .exit)) ⌝ }
+{
+    let state = decided_alone(table);
+    put_outcome(table, state, state.k, out, made)
+}
+
+// Carries a job on by a budget; writes what it has come to and sets `made`, as `decide_table` does. Returns the length. Refusals: those of
+// the carry-on, 12.
+pub fn carry_job(job: Job, budget: u32, out: &mut [u8], made: &mut u32) -> i64
+    ensures { λ r. ⌜ HandedOver (carriedBack budget (length (now (out .entry))) job) (now (out .entry)) (now (made .entry)) r (now (out .exit)) (now (made .exit)) ⌝ }
+{
+    let carried = job.carry_on(budget);
+    let status = carried.status;
+    if let Status::Refused(number) = status {
+        return refusal(number);
+    }
+    let next = carried.job;
+    put_outcome(next.table, next.state, carried.made, out, made)
+}

@@ -1,0 +1,6 @@
+// What the test programs share: the functions, one a line, the words, numbers and table of a line, and words and numbers on standard
+// output.
+pub mod data;
+pub mod line;
+pub mod show;
+pub mod text;

@@ -1,0 +1,37 @@
+-- `vector::gate_of` is safe and ends. Nothing has to hold from pass to pass; the measure is the number of places left.
+-- Assumes nothing.
+use Prim.Native.Nat.{_-_}
+use borrow.Author.Needs.{needs}
+use Rattle.papers_main.proofs.vector.gate_of.Statement.{statement}
+use Rattle.papers_main.proofs.vector.gate_of.Tie as tie
+
+abbrev Inv-loop : tie.InvT-loop
+Inv-loop n numbers weights₀ place₀ weights place = Unit {0}
+
+abbrev μ-loop : tie.MeasureT-loop
+μ-loop n numbers weights₀ place₀ weights place = 8 - place
+
+word-requires : tie.Need-word-requires Inv-loop μ-loop
+word-requires c κs = search needs
+
+signed-requires : tie.Need-signed-requires Inv-loop μ-loop
+signed-requires c κs = search needs
+
+pub gate-of-spec : {M : Type 1} → statement M
+gate-of-spec =
+    tie.close
+    (tie.spec
+    Inv-loop
+    μ-loop
+    (λ c. search needs)
+    (λ c. search needs)
+    word-requires
+    signed-requires
+    (λ c. search needs)
+    (λ c. search needs)
+    (λ c. search needs)
+    (λ c. search needs)
+    (λ c. search needs)
+    (λ c κs. search needs)
+    (λ c κs. search needs)
+    (λ c. search needs))

@@ -1,0 +1,37 @@
+-- `vector::witness_of` is safe and ends. Nothing has to hold from pass to pass; the measure is the number of words left.
+-- Assumes nothing.
+use Prim.Native.Nat.{_-_}
+use borrow.Author.Needs.{needs}
+use Rattle.papers_main.proofs.vector.witness_of.Statement.{statement}
+use Rattle.papers_main.proofs.vector.witness_of.Tie as tie
+
+abbrev Inv-loop : tie.InvT-loop
+Inv-loop rows once counts₀ count₀ k₀ counts count k = Unit {0}
+
+abbrev μ-loop : tie.MeasureT-loop
+μ-loop rows once counts₀ count₀ k₀ counts count k = 8 - k
+
+word-requires : tie.Need-word-requires Inv-loop μ-loop
+word-requires c κs = search needs
+
+returns : tie.Need-returns Inv-loop μ-loop
+returns c = search needs
+
+pub witness-of-spec : {M : Type 1} → statement M
+witness-of-spec =
+    tie.close
+    (tie.spec
+    Inv-loop
+    μ-loop
+    (λ c. search needs)
+    word-requires
+    (λ c κs. search needs)
+    (λ c κs. search needs)
+    (λ c. search needs)
+    (λ c. search needs)
+    (λ c. search needs)
+    (λ c. search needs)
+    (λ c. search needs)
+    (λ c. search needs)
+    returns
+    (λ c. search needs))

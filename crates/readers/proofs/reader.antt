@@ -1,0 +1,2 @@
+-- What the walks of the reader's functions share.
+pub mod Held

@@ -1,0 +1,2 @@
+-- where a reader stands
+pub mod Reader

@@ -1,0 +1,106 @@
+-- The reading of a table, one way through its definitions at a time: the array that bytes are copied into, the bits of rows, n, and the
+-- table of both; and a kind with the table that follows it. Assumes nothing.
+use mathlib.Core.Path.{_≡_, refl, sym, _∙_, ap}
+use mathlib.Core.Bool.{true, false}
+use mathlib.Core.List.{List, _++_}
+use Prim.Native.Nat.{ℕ, _+_, _-_, _≤_, _<_}
+use native.Mathlib.Nat.{zero-add}
+use native.Mathlib.Numerals.{add-one}
+use native.Mathlib.Omega.{arith}
+use lib.ListN.{length, getD, set, take, drop, replicate, length-drop, length-replicate, replicate-append-replicate}
+use lib.Seq.{paste-suc, drop-at, length-take-le, getD-drop}
+use borrow.Author.Tests.{lt-ltb, le-ltb}
+use Rattle.table.specs.Table.{rowsOf, spareSet}
+use Rattle.cell.specs.Refusal.{Answered, answered, refused, andThen}
+use Rattle.codec.specs.Field.{Field, Reading, field, onward}
+use Rattle.codec.specs.Kind.{Family, tablesAlone, kindAt}
+use Rattle.codec.specs.Number.{numberAt}
+use Rattle.codec.specs.TableField.{bitBytes, inputsAt, padded, bitsAt, tableOf, tableAt, tableRecordAt}
+use Rattle.reading.specs.Fields.{kindField, tableBy, tableField}
+use Rattle.reading.proofs.FieldFacts.{family-back}
+
+-- ---- the array of a table
+
+-- an array whose first i bytes are those of t
+abbrev pub copied : List ℕ → List ℕ → ℕ → List ℕ
+copied old t i = take i t ++ drop i old
+
+-- a store of the next byte copies one more
+pub copied-more : (old s : List ℕ) (at i : ℕ) → i < length old → at + i < length s
+    → set (copied old (drop at s) i) i (getD s (at + i) 0) ≡ copied old (drop at s) (i + 1)
+copied-more old s at i h k =
+    rw (← getD-drop at s i 0, add-one) (simp zero-add at (paste-suc old 0 (drop at s) i 0 (omega arith) (rw length-drop (omega arith))))
+
+drop-replicate : (m n a : ℕ) → m ≤ n → drop m (replicate n a) ≡ replicate (n - m) a
+drop-replicate m n a h =
+    let both : m + (n - m) ≡ n = omega arith in
+    ap (λ (k : ℕ). drop m (replicate k a)) (sym both)
+    ∙ ap (drop m) (sym (replicate-append-replicate m (n - m) a))
+    ∙ drop-at (replicate m a) (replicate (n - m) a) m (length-replicate m a)
+
+-- in an array of n zeros, zeros are left behind the bytes
+pub copied-zeros : (n : ℕ) (t : List ℕ) (m : ℕ) → m ≤ n → m ≤ length t → copied (replicate n 0) t m ≡ take m t ++ replicate (n - length (take m t)) 0
+copied-zeros n t m h k = rw (length-take-le m t, drop-replicate m n 0)
+
+-- ---- the bits of rows
+
+module _ (rows : ℕ) (s : List ℕ) (at : ℕ) where
+  -- their bytes end early
+  pub bits-short : length s < at + bitBytes rows → refused 1 ≡ bitsAt rows s at
+  bits-short h = rw (lt-ltb (length s) (at + bitBytes rows) h)
+
+  -- they are all there
+  pub bits-whole : at + bitBytes rows ≤ length s → answered (field (padded (take (bitBytes rows) (drop at s))) (at + bitBytes rows)) ≡ bitsAt rows s at
+  bits-whole h = rw (le-ltb (length s) (at + bitBytes rows) h)
+
+-- ---- n
+
+-- n as a number that is refused
+pub inputs-refused : (s : List ℕ) (at : ℕ) {m : ℕ} → numberAt s at ≡ refused m → inputsAt s at ≡ refused m
+inputs-refused s at e = rw e
+
+module _ (s : List ℕ) (at : ℕ) {f : Field ℕ} (e : numberAt s at ≡ answered f) where
+  -- an n above 8
+  pub inputs-many : 8 < f .value → inputsAt s at ≡ refused 2
+  inputs-many h = rw (e, lt-ltb 8 (f .value) h)
+
+  -- an n that is taken
+  pub inputs-few : f .value ≤ 8 → inputsAt s at ≡ answered f
+  inputs-few h = rw (e, le-ltb 8 (f .value) h)
+
+-- ---- a table, by how far it is read
+
+module _ (s : List ℕ) (at : ℕ) where
+  -- its n is refused
+  pub table-inputs-refused : {m : ℕ} → inputsAt s at ≡ refused m → refused m ≡ tableAt s at
+  unfolding tableAt
+  table-inputs-refused e = rw e
+
+  module _ {inputs : Field ℕ} (i : inputsAt s at ≡ answered inputs) where
+    -- its bits are refused
+    pub table-bits-refused : {m : ℕ} → bitsAt (rowsOf (inputs .value)) s (inputs .next) ≡ refused m → refused m ≡ tableAt s at
+    unfolding tableAt
+    table-bits-refused e = rw (i, e)
+
+    module _ {bits : Field (List ℕ)} (b : bitsAt (rowsOf (inputs .value)) s (inputs .next) ≡ answered bits) where
+      -- a bit that is no row's is set
+      pub table-spare : spareSet (inputs .value) (bits .value) ≡ true → refused 3 ≡ tableAt s at
+      unfolding tableAt
+      table-spare e = rw (i, b, e)
+
+      -- it is read
+      pub table-read : spareSet (inputs .value) (bits .value) ≡ false → answered (field (tableOf (inputs .value) (bits .value)) (bits .next)) ≡ tableAt s at
+      unfolding tableAt
+      table-read e = rw (i, b, e)
+
+-- ---- a kind, then a table
+
+-- the table that follows a kind that was read, where that ended
+pub kind-then-table : (s : List ℕ) (r : Reading Family) → tableField (tableBy (kindField r .kind) s (kindField r .next)) ≡ tableField (onward r (λ f p. tableAt s p))
+kind-then-table s (answered f) = ap (λ (a : Answered Family). tableField (andThen a (λ g. tableAt s (f .next)))) (family-back (answered (f .value)))
+kind-then-table s (refused n) = refl
+
+-- the record of a table alone
+pub table-record : (s : List ℕ) (at : ℕ) → (let k = kindField (kindAt tablesAlone s at) in tableField (tableBy (k .kind) s (k .next))) ≡ tableField (tableRecordAt s at)
+unfolding tableRecordAt
+table-record s at = kind-then-table s (kindAt tablesAlone s at)

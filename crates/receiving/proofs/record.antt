@@ -1,0 +1,2 @@
+-- What the walks of a record's functions share.
+pub mod Travel

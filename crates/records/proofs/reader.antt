@@ -1,2 +1,0 @@
--- What the walks of the reader's functions share.
-mod Held

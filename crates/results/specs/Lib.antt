@@ -1,0 +1,2 @@
+-- the number that a call of the C interface returns
+pub mod Result

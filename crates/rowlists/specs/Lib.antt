@@ -1,0 +1,2 @@
+-- what the structs of read pairs and row lists stand for
+pub mod Fields

@@ -1,0 +1,66 @@
+// Whether tables, gates and jobs are the same in every field.
+use job::job::Job;
+use machine::vector::same_vector;
+use table::witness::same_counts;
+use types::gate::Gate;
+use types::stage::Stage;
+use types::state::State;
+use types::table::Table;
+use types::vector::Vector;
+
+// Returns the letter of a stage.
+pub fn letter(stage: Stage) -> u8 {
+    match stage {
+        Stage::Open => b'O',
+        Stage::Found => b'F',
+        Stage::Looped => b'L',
+        Stage::Binate => b'B',
+    }
+}
+
+// Whether the bytes are the same.
+fn same_bytes(x: [u8; 32], y: [u8; 32]) -> bool {
+    let mut at: usize = 0;
+    while at < 32 {
+        if x[at] != y[at] {
+            return false;
+        }
+        at = at + 1;
+    }
+    true
+}
+
+// Whether the tables are the same.
+pub fn same_table(x: Table, y: Table) -> bool {
+    let x_bytes = x.bytes;
+    let y_bytes = y.bytes;
+    x.n == y.n && same_bytes(x_bytes, y_bytes)
+}
+
+// Whether the gate has n inputs, with the weights and T that a vector is.
+pub fn is_gate_of(gate: Gate, n: u8, v: Vector) -> bool {
+    let a = gate.weights;
+    let b = gate.threshold;
+    gate.n == n && same_vector(Vector { a, b }, v)
+}
+
+// Whether K, M and the stage are the same.
+fn same_progress(x: State, y: State) -> bool {
+    let x_stage = x.stage;
+    let y_stage = y.stage;
+    x.k == y.k && x.mark == y.mark && letter(x_stage) == letter(y_stage)
+}
+
+// Whether v, s and the counts are the same.
+fn same_numbers(x: State, y: State) -> bool {
+    let x_counts = x.counts;
+    let y_counts = y.counts;
+    same_vector(x.v, y.v) && same_vector(x.s, y.s) && same_counts(x_counts, y_counts)
+}
+
+// Whether the jobs are the same.
+pub fn same_job(x: Job, y: Job) -> bool {
+    same_table(x.table, y.table)
+        && same_progress(x.state, y.state)
+        && same_numbers(x.state, y.state)
+}

@@ -1,0 +1,73 @@
+// The binate input of a table, and the counts that show it.
+use crate::words::pairs_at;
+use crate::words::row_words;
+use table::inputs::Lowest;
+use table::inputs::first_turn;
+use types::table::Table;
+ghost use mathlib.Core.Path.{_≡_};
+ghost use mathlib.Core.Option.{Option, some};
+ghost use Prim.Native.Nat.{ℕ, _+_, _^_, _≤_, _<_};
+ghost use lib.ListN.{getD};
+ghost use Rattle.table.specs.Inputs.{lowestOf};
+ghost use Rattle.function.specs.Binate.{pairMore, binateAt, binatePlace, binateCounts};
+ghost use Rattle.unateness.specs.Words.{rowWords};
+ghost use Rattle.table.specs.Table.{functionOf};
+
+// Whether the place's input rises somewhere and falls elsewhere, by the values of the rows.
+fn binate_at(words: &[u64; 4], place: usize) -> bool
+    requires { ⌜ place < 8 ⌝ }
+    ensures { λ r. ⌜ ((t : Table) → t .n ≤ 8 → place < t .n → now (words .entry) ≡ rowWords t → r ≡ binateAt (functionOf t) place) ⌝ }
+{
+    let mut rises: u64 = 0;
+    let mut falls: u64 = 0;
+    let mut at: usize = 0;
+    while at < 4 {
+        let pairs = pairs_at(words, place, at);
+        rises = rises | (!pairs.own & pairs.partner);
+        falls = falls | (pairs.own & !pairs.partner);
+        at = at + 1;
+    }
+    rises != 0 && falls != 0
+}
+
+// Returns the place of the lowest binate input.
+pub fn binate_place(table: Table) -> Lowest
+    requires { ⌜ table .n ≤ 8 ⌝ }
+    ensures { λ r. ⌜ r ≡ lowestOf (binatePlace (functionOf table)) ⌝ }
+{
+    let words = row_words(table);
+    let n = table.n as usize;
+    let mut place: usize = 0;
+    while place < n {
+        if binate_at(&words, place) {
+            return Lowest::Row(place);
+        }
+        place = place + 1;
+    }
+    Lowest::Nowhere
+}
+
+// Adds one to the count of the row that a search found, and to that of its partner with the place's input true.
+fn add_pair(counts: &mut [u32; 256], place: usize, turn: Lowest)
+    requires { ⌜ (place < 8) × ((row : ℕ) → turn ≡ lowestOf (some row) → row + 2 ^ place < 256) × ((row : ℕ) → getD (now counts) row 0 ≤ 2) ⌝ }
+    ensures { λ _. ⌜ ((o : Option ℕ) → turn ≡ lowestOf o → now (counts .exit) ≡ pairMore 2 place o (now (counts .entry))) ⌝ }
+{
+    let Lowest::Row(row) = turn else {
+        return;
+    };
+    counts[row] = counts[row] + 1;
+    let partner = row + (1usize << place);
+    counts[partner] = counts[partner] + 1;
+}
+
+// Returns the counts of a binate table: 1 at the lowest row where the place's input rises, at the lowest where it falls, and at their
+// partners.
+pub fn binate_counts(table: Table, place: usize) -> [u32; 256]
+    requires { ⌜ (table .n ≤ 8) × (place < table .n) ⌝ }
+    ensures { λ r. ⌜ r ≡ binateCounts (functionOf table) place ⌝ }
+{
+    let mut counts = [0u32; 256];
+    add_pair(&mut counts, place, first_turn(table, true, place));
+    add_pair(&mut counts, place, first_turn(table, false, place));
+    counts
+}
