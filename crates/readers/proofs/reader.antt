@@ -3,3 +3,4 @@ pub mod Forwarding
 pub mod Held
 pub mod Passed
 pub mod Plain
+pub mod Stating

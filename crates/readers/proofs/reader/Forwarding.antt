@@ -13,7 +13,7 @@ use base.Fml.{Lft, Share, Fml}
 use prog.Wp.{Heap, Calls, Loops, WpFn, Tables}
 use ghost.Atoms.{Atoms}
 use contract.Lifetimes.{Lfts}
-use types.Kit.{Given, Go, Seq, Item, prop, ‵, raw, _⊛_, given, ⋆, _$_, _∵_, !, qed, by, move, drop, use1, split, split3, join, learn, fsplit, fjoin, suffices, frame, done}
+use types.Kit.{Given, Go, Seq, Item, prop, ‵, raw, _⊛_, ⋆, _$_, _∵_, !, qed, by, move, drop, use1, split, split3, join, fsplit, fjoin, suffices, frame, done}
 use types.Part.{whole, sub, look-in}
 use types.Run.{look, init, forget, stop, fld, from, load, of-opd, and-then, no-more, assigns, land, returns, enter, alloc1, alloc0, params1, pass1, pass0, free1, free0}
 use sound.WpLaws.{FmC, fmOf, WpFn-mono}
@@ -26,10 +26,7 @@ use denote.Ref.{now}
 use denote.Signature.{Signature, plain}
 use denote.Slice.{sliceTy}
 use denote.Steps.{owned, nothing}
-use denote.Struct.Declared.{Declared}
 use denote.Struct.Laws as LL
-use denote.Struct.Rest.{all-own, ownAt, rest, own-open, own-out}
-use denote.Struct.Values.{Values}
 use denote.Triple.Bound.{Bound}
 use denote.Triple.Clauses.{Clauses, Ended, AtExit, closing}
 use denote.Triple.Entry.{Args, Vals, alive, onEntry}
@@ -37,9 +34,10 @@ use denote.Triple.Spec.{Meets}
 use denote.Triple.Statement.{Contract, Triple}
 use denote.Triple.Walked.{Ending, Stays, stay-none, walkOf, goes-none, ends-at, walked, walk-meets}
 use Rattle.readers.specs.declared.reader.Reader.{Reader}
-use Rattle.readers.proofs.reader.Held.{row, type, laws, Src, sliceOf, beside, reader-typed, reader-copy, Stating, calls}
+use Rattle.readers.proofs.reader.Held.{row, type, laws, Src, sliceOf, reader-typed, reader-copy, reader-apart}
 use Rattle.readers.proofs.reader.Plain.{Plain, last, silent}
 use Rattle.readers.proofs.reader.Reader.Laws as T′
+use Rattle.readers.proofs.reader.Stating.{beside, Stating, calls}
 
 -- the function: its result's type, the plain value's, and what it calls
 abbrev pub function : Ty → Ty → Name → Fn
@@ -108,16 +106,6 @@ module _ (P S : Plain) where
         abbrev OwnP : Fml
         OwnP = P .row .own p (P .val p ∷ [])
 
-        -- the struct's type and laws, and d's fields' values
-        abbrev D : Declared
-        D = type (κ, tt)
-
-        abbrev L : LL.Laws D
-        L = laws (κ, tt)
-
-        abbrev vd : Values (D .parts)
-        vd = (d .src, (d .at, tt))
-
         -- what the callee is passed
         abbrev passed : Vals below (κ, tt)
         passed = (sliceOf (d .src) ∷ [], (vint w64 (d .at) ∷ [], (P .val p ∷ [], tt)))
@@ -134,11 +122,10 @@ module _ (P S : Plain) where
             qed W (token ∷ ‵ (owns (row (κ, tt) ∷ P .row ∷ []) (d, (p, tt)) at) ∷ []) ∵ move ! (1 ∷ []) $ fsplit ! $ move ! (1 ∷ []) $ fsplit ! $ move ! (1 ∷ []) $ drop ! $
             use1 W (‵ OwnP ⊛ ‵ OwnP) (P .copy 𝓤 H A W .twice p (P .val p ∷ [])) $ split ! $ move ! (2 ∷ []) $
             use1 W (‵ Own ⊛ ‵ Own) (reader-copy 𝓤 H A W (κ, tt) .twice d (mach ∷ [])) $ split ! $
-            use1 W (given (mach ∷ [] ≡ mach ∷ []) (‵ (all-own (D .parts) L vd))) (own-open 𝓤 H A W D L vd mach) $ learn ! (λ _.
-            use1 W (‵ (ownAt (D .parts) L 0 (d .src)) ⊛ ‵ (rest (D .parts) L 0 vd)) (own-out 𝓤 H A W (D .parts) L 0 vd) $ split ! $
-            -- [what src owns; what at owns; what the struct owns; what the plain value owns, twice; the token]
-            move ! (1 ∷ []) $ drop ! $ nothing ! $ move ! (3 ∷ 0 ∷ []) $ fjoin ! $ owned ! usize (Is usize) (uint-makes 𝓤 H A W w64) (d .at) _ (refl, fits) $ fjoin ! $
-            move ! (1 ∷ 0 ∷ []) $ fjoin ! $ move ! (3 ∷ 0 ∷ []) $ frame ! $ frame ! $ join ! $ done !)
+            use1 W (‵ (Src κ .own (d .src) (sliceOf (d .src) ∷ []))) (reader-apart 𝓤 H A W κ d) $
+            -- [what src owns; what the struct owns; what the plain value owns, twice; the token]
+            nothing ! $ move ! (3 ∷ 0 ∷ []) $ fjoin ! $ owned ! usize (Is usize) (uint-makes 𝓤 H A W w64) (d .at) _ (refl, fits) $ fjoin ! $
+            move ! (1 ∷ 0 ∷ []) $ fjoin ! $ move ! (3 ∷ 0 ∷ []) $ frame ! $ frame ! $ join ! $ done !
 
         -- what is left at the end is what the contract states
         exits : (r : S .row .Denot) (u : Val) → r ≡ meant p (now (d .src)) (d .at)

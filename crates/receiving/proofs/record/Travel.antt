@@ -12,7 +12,8 @@ use prog.Wp.{Heap, Env, Calls, Loops}
 use sound.WpLaws.{FmC}
 use ghost.Atoms.{Atoms}
 use contract.Lifetimes.{Lfts}
-use types.Kit.{Given, Item, Goal, Post, Seq, Step, step, runs, lands, ‵, raw, _⊛_, _$_, use1, split, move, fjoin}
+use contract.Monad.{fact}
+use types.Kit.{Given, Item, Goal, Post, Seq, Step, prop, step, runs, lands, ‵, raw, _⊛_, _$_, use1, split, move, fjoin}
 use types.Run.{Opds}
 use denote.RattleType.{RattleType, owns}
 use denote.Builtin.{usize}
@@ -32,10 +33,11 @@ use Rattle.reading.proofs.kind.Takes.Laws as P′
 use Rattle.readers.specs.declared.reader.Reader.{Reader}
 use Rattle.readers.specs.Reader.{Stands, Starts, MovedTo}
 use Rattle.readers.proofs.reader.Forwarding.{ended, Gives}
-use Rattle.readers.proofs.reader.Held.{row, Src, sliceOf, slice-copy, Stating, calls}
+use Rattle.readers.proofs.reader.Held.{row, Src, sliceOf, slice-copy}
 use Rattle.readers.proofs.reader.Plain.{Plain}
 use Rattle.readers.proofs.reader.Reader as R
 use Rattle.readers.proofs.reader.Reader.Laws as R′
+use Rattle.readers.proofs.reader.Stating.{states, Stating, calls}
 use Rattle.readers.proofs.reader.start as start
 use Rattle.readers.proofs.reader.moved as moved
 
@@ -101,6 +103,10 @@ there m s n r e = ap (λ (x : RefT (List ℕ)). m (now x) (r .at)) (e .0) ∙ ap
 
 pub moved-on : (s : RefT (List ℕ)) (n m : ℕ) (r q : Reader) → Stands s n r → Stands (r .src) m q → Stands s m q
 moved-on s n m r q e e′ = (e′ .0 ∙ e .0, e′ .1)
+
+-- a contract states what the way comes to: x was read by the way, and that is z
+pub comes-to : {M : Type 1} {𝓤 : URA M} {H : Heap 𝓤} {A : Atoms 𝓤} {K : Type 0} {W : Given 𝓤 H A} → K → {X : Type 0} {x y z : X} → x ≡ y → y ≡ z → Seq K W [] (prop (fact 𝓤 (x ≡ z)))
+comes-to t by-the-way same = states t (by-the-way ∙ same)
 
 module _ {M : Type 1} (𝓤 : URA M) (H : Heap 𝓤) (A : Atoms 𝓤) (κ : Lft) (q : Share) where
   abbrev pub token : Item 𝓤

@@ -7,8 +7,8 @@ use denote.Triple.Table.{entered, cited}
 use Rattle.records.proofs.read.body_at.Symbol as callee
 use Rattle.records.proofs.read.body_at.Met as callee-thm
 use Rattle.readers.proofs.reader.Forwarding.{Callee, meets}
-use Rattle.readers.proofs.reader.Held.{states}
 use Rattle.readers.proofs.reader.Passed as Passed
+use Rattle.readers.proofs.reader.Stating.{states}
 use Rattle.readers.proofs.reader.body.Key as key
 use Rattle.readers.proofs.reader.body as this
 use Rattle.readers.proofs.reader.body.Statement as stated
