@@ -1,6 +1,6 @@
 -- How many lines a report has left at most: fewer with each line, until it is done; and a line that is made is not empty. Assumes nothing.
 use mathlib.Core.Path.{_≡_, refl, ap}
-use mathlib.Core.Bool.{Bool, true, false}
+use mathlib.Core.Bool.{Bool, true, false, cond}
 use mathlib.Core.List.{List}
 use Prim.Native.Nat.{ℕ, zero, suc, _+_, _-_, _≤_, _<_}
 use native.Mathlib.Omega.{arith}
@@ -17,7 +17,7 @@ use Rattle.reporting.proofs.RoomLaws.{record-some, refusal-some, last-some}
 use Rattle.batch.specs.declared.progress.Step.{Step}
 use Rattle.batch.specs.declared.progress.Step.the-variants.{Records, Last, Done}
 use Rattle.batch.specs.declared.progress.Progress.{Progress}
-use Rattle.batch.specs.Progress.{Advance, isDone, advanceBy, lastOf, pickAdvance, advanceIn, advance, after}
+use Rattle.batch.specs.Progress.{Advance, isDone, advanceBy, lastOf, advanceIn, advance, after}
 
 -- each record takes a byte of the input at least; a refusal and the last line may follow
 abbrev pub leftIn : Step → (bytes at : ℕ) → ℕ
@@ -38,7 +38,7 @@ module _ (s : List ℕ) (p : Progress) where
   by-record (answered f) e h = (record-some (p .tally .records + 1) (decided (f .value)), omega (arith, record-read s (p .at) f e .forward))
 
   by-test : (b : Bool) → ltb (p .at) (length s) ≡ b
-      → Moves s (length s - p .at + 2) (pickAdvance b (advanceBy (p .at) (p .tally) (tableRecordAt s (p .at))) (lastOf (p .at) (p .tally)))
+      → Moves s (length s - p .at + 2) (cond b (advanceBy (p .at) (p .tally) (tableRecordAt s (p .at))) (lastOf (p .at) (p .tally)))
   by-test true e = by-record (tableRecordAt s (p .at)) refl (ltb-true (p .at) (length s) e)
   by-test false e = (last-some (p .tally), omega arith)
 

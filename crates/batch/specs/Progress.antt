@@ -1,6 +1,6 @@
 -- A report line by line (document 01, "Kinds, Chow, report"). Definitions only. Assumes nothing.
 use mathlib.Core.Path.{_≡_}
-use mathlib.Core.Bool.{Bool, true, false}
+use mathlib.Core.Bool.{Bool, true, false, cond}
 use mathlib.Core.List.{List, [], _++_}
 use Prim.Native.Nat.{ℕ, zero, suc, _+_, _*_, _≤_}
 use lib.Dec.{ltb}
@@ -59,12 +59,8 @@ advanceBy at t (answered f) =
 abbrev pub lastOf : ℕ → Tally → Advance
 lastOf at t = record { line = lastLine t; next = progress at t Done }
 
-abbrev pub pickAdvance : Bool → Advance → Advance → Advance
-pickAdvance true a b = a
-pickAdvance false a b = b
-
 abbrev pub advanceIn : Step → List ℕ → Progress → Advance
-advanceIn Records s p = pickAdvance (ltb (p .at) (length s)) (advanceBy (p .at) (p .tally) (tableRecordAt s (p .at))) (lastOf (p .at) (p .tally))
+advanceIn Records s p = cond (ltb (p .at) (length s)) (advanceBy (p .at) (p .tally) (tableRecordAt s (p .at))) (lastOf (p .at) (p .tally))
 advanceIn Last s p = lastOf (p .at) (p .tally)
 advanceIn Done s p = record { line = []; next = p }
 
