@@ -9,7 +9,7 @@ use Rattle.cell.specs.Refusal.{answered, checked}
 use Rattle.cell.specs.Calls.{tooManyInputs, spareBits}
 use Rattle.codec.specs.Field.{Reading, field, onward, endsEarly}
 use Rattle.codec.specs.Number.{numberBytes, numberAt}
-use Rattle.codec.specs.Kind.{tablesAlone, kindAt}
+use Rattle.codec.specs.Kind.{tablesAlone, recordWith}
 
 -- how many bytes the bits of so many rows take
 abbrev pub bitBytes : ℕ → ℕ
@@ -48,7 +48,7 @@ unfoldable pub tableAt : List ℕ → ℕ → Reading Table
 tableAt s at =
     onward (inputsAt s at) (λ n p. onward (bitsAt (rowsOf n) s p) (λ bits next. checked (spareBits (tableOf n bits) ∷ []) (answered (field (tableOf n bits) next))))
 
--- a record of kind 1, one of a report's: its kind byte, then its table
+-- a record of a table alone, one of a report's
 unfoldable pub tableRecordAt : List ℕ → ℕ → Reading Table
 unfolding tableAt
-tableRecordAt s at = onward (kindAt tablesAlone s at) (λ family p. tableAt s p)
+tableRecordAt s at = recordWith tablesAlone (λ family. tableAt) s at

@@ -36,7 +36,7 @@ use Rattle.codec.proofs.VectorFieldLaws.{vector-read}
 use Rattle.codec.proofs.RowListRead.{rows-read}
 use Rattle.codec.proofs.KindLaws.{every-taken, kind-read}
 use Rattle.codec.proofs.TableFieldLaws.{table-read}
-use Rattle.records.specs.Record.{Record, ofTable, ofGate, ofWitness, ofJob, family, gateVector, vectorGate, jobBytes, recordBytes, openJob, unsoundJob, countsAt, jobAt, bodyAt, bytesLeft, recordAt, readRecord}
+use Rattle.records.specs.Record.{Record, ofTable, ofGate, ofWitness, ofJob, family, gateVector, vectorGate, jobBytes, recordBytes, openJob, unsoundJob, countsAt, jobAt, bodyAt, bytesLeft, recordAt, singleAt, readRecord}
 use Rattle.writers.specs.Calls.{hasEnded, tooShort, recordRules, writeRecord}
 use Rattle.job.proofs.MachineLaws.{open-stage}
 use Rattle.writers.proofs.RecordParts.{Held, tableIn, restBytes, record-parts, restAt, body-is, same-inputs, gate-in-limits, witness-fits, savable}
@@ -121,7 +121,7 @@ table-held (ofJob j) held = held
 
 -- a record's bytes, alone, are read as the record
 record-read : (x : Record) (others : List Rule) → Held x → NoneBroken (recordRules x others) → readRecord (recordBytes x) ≡ answered x
-unfolding recordAt
+unfolding recordAt singleAt
 record-read x others held kept =
     let s = recordBytes x in
     let f = family x in
@@ -136,7 +136,7 @@ record-read x others held kept =
     let second = table-read t s (0 + 1) (table-taken x others kept) (table-held x held) (omega (arith, inside .0)) (stands-front s (0 + 1) table rest back) in
     let third = rest-read x others held kept s (0 + 1 + length table) (stands-back s (0 + 1) table rest back) in
     let whole : length s ≡ 1 + (length table + length rest) = omega (arith, ap length (record-parts x), length-append table rest) in
-    ap (λ (r : Reading Family). onward r (λ g p. onward (bodyAt g s p) (ended s))) first
+    ap (λ (r : Reading Family). onward (onward r (λ g p. bodyAt g s p)) (ended s)) first
     ∙ ap (λ (r : Reading Record). onward r (ended s)) (body-is f s (0 + 1) ∙ ap (λ (r : Reading Table). onward r (λ u p. restAt f u s p)) second ∙ third)
     ∙ ap (λ (b : Bool). checked (rule 6 b ∷ []) (answered x)) (le-ltb (0 + 1 + length table + length rest) (length s) (omega arith))
   where

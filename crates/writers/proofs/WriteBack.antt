@@ -33,7 +33,7 @@ use Rattle.codec.proofs.VectorFieldLaws.{vector-written}
 use Rattle.codec.proofs.RowListWritten.{rows-written, strict-kept}
 use Rattle.codec.proofs.KindLaws.{KindRead, kind-written}
 use Rattle.codec.proofs.TableFieldLaws.{TableRead, table-written}
-use Rattle.records.specs.Record.{Record, ofTable, ofGate, ofWitness, ofJob, family, vectorGate, recordBytes, gateAt, witnessAt, openJob, unsoundJob, jobAt, bodyAt, recordAt, readRecord}
+use Rattle.records.specs.Record.{Record, ofTable, ofGate, ofWitness, ofJob, family, vectorGate, recordBytes, gateAt, witnessAt, openJob, unsoundJob, jobAt, bodyAt, recordAt, singleAt, readRecord}
 use Rattle.writers.specs.Calls.{tooShort, recordRules, writeRecord}
 use Rattle.writers.proofs.RecordParts.{tableIn, restBytes, record-parts, restAt, body-is, fit-from}
 
@@ -149,12 +149,12 @@ record-written s x k t b kind table rest ends e =
 
 -- writing what was read gives the same bytes
 pub write-back : (s : List ℕ) → AllBytes s → (x : Record) → readRecord s ≡ answered x → (room : ℕ) → length s ≤ room → writeRecord x room ≡ answered s
-unfolding recordAt
+unfolding recordAt singleAt
 write-back s bytes x e room h =
-    let (k, ek, e₁) = onward-answered (kindAt everyFamily s 0) _ x e in
-    let (b, eb, e₂) = onward-answered (bodyAt (k .value) s (k .next)) _ x e₁ in
-    let ended = checked-answered 6 (ltb (b .next) (length s)) (b .value) x e₂ in
-    let (t, et, er) = onward-answered (tableAt s (k .next)) (λ u p. restAt (k .value) u s p) b (sym (body-is (k .value) s (k .next)) ∙ eb) in
+    let (b, eb, e₁) = onward-answered (recordAt everyFamily s 0) _ x e in
+    let (k, ek, e₂) = onward-answered (kindAt everyFamily s 0) (λ f p. bodyAt f s p) b eb in
+    let ended = checked-answered 6 (ltb (b .next) (length s)) (b .value) x e₁ in
+    let (t, et, er) = onward-answered (tableAt s (k .next)) (λ u p. restAt (k .value) u s p) b (sym (body-is (k .value) s (k .next)) ∙ e₂) in
     let kind = kind-written everyFamily s 0 k ek in
     let table = table-written s (k .next) t bytes et in
     let body = rest-written (t .value) s bytes (table .taken) (k .value) (t .next) b er in
