@@ -10,12 +10,12 @@ use native.Mathlib.Omega.{arith}
 use lib.ListN.{length, getD, set, take, drop, replicate, length-drop, length-replicate, replicate-append-replicate}
 use lib.Seq.{paste-suc, drop-at, length-take-le, getD-drop}
 use borrow.Author.Tests.{lt-ltb, le-ltb}
-use Rattle.table.specs.Table.{rowsOf, spareSet}
+use Rattle.table.specs.Table.{rowsOf, bitBytes, padded, spareSet}
 use Rattle.cell.specs.Refusal.{Answered, answered, refused, andThen}
 use Rattle.codec.specs.Field.{Field, Reading, field, onward}
 use Rattle.codec.specs.Kind.{Family, tablesAlone, kindAt}
 use Rattle.codec.specs.Number.{numberAt}
-use Rattle.codec.specs.TableField.{bitBytes, inputsAt, padded, bitsAt, tableOf, tableAt, tableRecordAt}
+use Rattle.codec.specs.TableField.{inputsAt, bitsAt, tableOf, tableAt, tableRecordAt}
 use Rattle.reading.specs.Fields.{kindField, tableBy, tableField}
 use Rattle.reading.proofs.FieldFacts.{after-kind}
 
@@ -50,7 +50,7 @@ module _ (rows : ℕ) (s : List ℕ) (at : ℕ) where
   bits-short h = rw (lt-ltb (length s) (at + bitBytes rows) h)
 
   -- they are all there
-  pub bits-whole : at + bitBytes rows ≤ length s → answered (field (padded (take (bitBytes rows) (drop at s))) (at + bitBytes rows)) ≡ bitsAt rows s at
+  pub bits-whole : at + bitBytes rows ≤ length s → answered (field (padded 32 0 (take (bitBytes rows) (drop at s))) (at + bitBytes rows)) ≡ bitsAt rows s at
   bits-whole h = rw (le-ltb (length s) (at + bitBytes rows) h)
 
 -- ---- n
