@@ -50,11 +50,8 @@ fn number_of(status: Status) -> u8 {
 // Whether a read record is a job.
 fn is_job(kind: Kind) -> bool {
     match kind {
-        Kind::Table => false,
-        Kind::Gate => false,
-        Kind::Witness => false,
         Kind::Job => true,
-        Kind::Refused(_) => false,
+        _ => false,
     }
 }
 

@@ -116,11 +116,8 @@ pub fn write(record: Read, out: &mut [u8]) -> Written {
 // Returns the number of a refusal, or 0.
 pub fn number_of(kind: Kind) -> u8 {
     match kind {
-        Kind::Table => 0,
-        Kind::Gate => 0,
-        Kind::Witness => 0,
-        Kind::Job => 0,
         Kind::Refused(number) => number,
+        _ => 0,
     }
 }
 
