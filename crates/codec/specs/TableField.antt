@@ -21,11 +21,6 @@ bitBytes rows = (rows + 7) / 8
 unfoldable pub tableBytes : Table → List ℕ
 tableBytes t = numberBytes (t .n) ++ take (bitBytes (rows t)) (t .bytes)
 
--- the kind byte and the table that the records of kinds 1 to 4 begin with
-unfoldable pub headBytes : ℕ → Table → List ℕ
-unfolding tableBytes
-headBytes kind t = kind ∷ tableBytes t
-
 -- ---- read
 
 -- n. 1 and 4, then 2

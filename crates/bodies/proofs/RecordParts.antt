@@ -24,13 +24,13 @@ use Rattle.job.proofs.MachineLaws.{binate-ended}
 use Rattle.job.proofs.SoundLaws.{sound-current, sound-copied, sound-count}
 use Rattle.codec.specs.VectorField.{vectorBytes}
 use Rattle.codec.specs.RowList.{rowListBytes}
-use Rattle.cell.specs.Refusal.{Rule, answered, NoneBroken, also}
+use Rattle.cell.specs.Refusal.{Rule, NoneBroken, also}
 use Rattle.cell.specs.Calls.{tableRules, gateRange, gateRules, witnessRange, witnessRules}
 use Rattle.cell.proofs.TableChecked.{others-kept}
-use Rattle.codec.specs.Field.{Reading, field, onward}
-use Rattle.codec.specs.Kind.{Family, tables, gates, witnesses, jobs, kindOf}
+use Rattle.codec.specs.Field.{onward}
+use Rattle.codec.specs.Kind.{Family, kindOf}
 use Rattle.codec.specs.TableField.{tableBytes, tableAt}
-use Rattle.records.specs.Record.{Record, ofTable, ofGate, ofWitness, ofJob, family, gateVector, jobBytes, bodyBytes, recordBytes, gateAt, witnessAt, jobAt, bodyAt}
+use Rattle.records.specs.Record.{Record, ofTable, ofGate, ofWitness, ofJob, family, gateVector, jobBytes, bodyBytes, recordBytes, restAt, bodyAt}
 
 -- the arrays of a record have the lengths of the code's types, as every value of those types has; a sound job's others are part of
 -- soundness
@@ -41,40 +41,37 @@ Held (ofWitness t w) = (length (t .bytes) ≡ 32) × (length (w .counts) ≡ 256
 Held (ofJob j) = length (j .table .bytes) ≡ 32
 
 -- the table that a record begins with, and what follows it
-unfoldable pub tableIn : Record → Table
+abbrev pub tableIn : Record → Table
 tableIn (ofTable t) = t
 tableIn (ofGate t g) = t
 tableIn (ofWitness t w) = t
 tableIn (ofJob j) = j .table
 
-unfoldable pub restBytes : Record → List ℕ
+abbrev pub restBytes : Record → List ℕ
 restBytes (ofTable t) = []
 restBytes (ofGate t g) = vectorBytes (t .n) (gateVector g)
 restBytes (ofWitness t w) = rowListBytes (w .counts)
 restBytes (ofJob j) = jobBytes j
 
--- the parts of a record's bytes: its kind byte, its table, and the rest
-pub record-parts : (x : Record) → recordBytes x ≡ (kindOf (family x) ∷ []) ++ (tableBytes (tableIn x) ++ restBytes x)
-unfolding recordBytes bodyBytes tableIn restBytes
-record-parts (ofTable t) = ap (λ (l : List ℕ). 1 ∷ l) (sym (append-nil (tableBytes t)))
-record-parts (ofGate t g) = refl
-record-parts (ofWitness t w) = refl
-record-parts (ofJob j) = refl
+-- a record is its kind byte and its body, and a body is the table and the rest
+pub kind-and-body : (x : Record) → recordBytes x ≡ (kindOf (family x) ∷ []) ++ bodyBytes x
+unfolding recordBytes
+kind-and-body x = refl
 
--- what follows the table, read by the family
-unfoldable pub restAt : Family → Table → List ℕ → ℕ → Reading Record
-restAt tables t s at = answered (field (ofTable t) at)
-restAt gates t s at = gateAt t s at
-restAt witnesses t s at = witnessAt t s at
-restAt jobs t s at = jobAt t s at
+pub body-parts : (x : Record) → bodyBytes x ≡ tableBytes (tableIn x) ++ restBytes x
+unfolding bodyBytes
+body-parts (ofTable t) = sym (append-nil (tableBytes t))
+body-parts (ofGate t g) = refl
+body-parts (ofWitness t w) = refl
+body-parts (ofJob j) = refl
+
+pub record-parts : (x : Record) → recordBytes x ≡ (kindOf (family x) ∷ []) ++ (tableBytes (tableIn x) ++ restBytes x)
+record-parts x = kind-and-body x ∙ ap (λ (l : List ℕ). (kindOf (family x) ∷ []) ++ l) (body-parts x)
 
 -- every family begins with a table
 pub body-is : (f : Family) (s : List ℕ) (at : ℕ) → bodyAt f s at ≡ onward (tableAt s at) (λ t p. restAt f t s p)
-unfolding bodyAt restAt
-body-is tables s at = refl
-body-is gates s at = refl
-body-is witnesses s at = refl
-body-is jobs s at = refl
+unfolding bodyAt
+body-is f s at = refl
 
 -- a witness that keeps its ranges is not unfit
 pub fit-from : (a b c : Bool) → a ≡ false → b ≡ true → c ≡ true → (a || not b || not c) ≡ false

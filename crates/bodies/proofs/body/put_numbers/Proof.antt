@@ -1,4 +1,4 @@
--- `writers::write::put_numbers` meets its contract: K, v and s, each behind the one before it. Assumes nothing.
+-- `bodies::body::put_numbers` meets its contract: K, v and s, each behind the one before it. Assumes nothing.
 use mathlib.Core.List.{List, _++_}
 use Prim.Native.Nat.{ℕ, _+_, _≤_}
 use native.Mathlib.Omega.{arith}
@@ -6,13 +6,15 @@ use lib.ListN.{length, length-append}
 use borrow.Author.Needs.{needs}
 use Rattle.job.specs.declared.job.Job.{Job}
 use Rattle.job.specs.Sound.{Sound}
+use Rattle.cell.proofs.TableChecked.{kept-inputs}
+use Rattle.job.proofs.JobChecked.{kept-sound}
 use Rattle.job.proofs.SoundLaws.{in-range-search, table-current, table-copied}
 use Rattle.codec.specs.Number.{numberBytes}
 use Rattle.codec.specs.VectorField.{vectorBytes}
 use Rattle.codec.specs.Written.{Put}
 use Rattle.codec.proofs.WrittenLaws.{written-room, written-next}
-use Rattle.writers.proofs.write.put_numbers.Statement.{statement}
-use Rattle.writers.proofs.write.put_numbers.Tie as tie
+use Rattle.bodies.proofs.body.put_numbers.Statement.{statement}
+use Rattle.bodies.proofs.body.put_numbers.Tie as tie
 
 module _ (c : tie.Start) where
   abbrev old : List ℕ
@@ -33,12 +35,15 @@ module _ (c : tie.Start) where
   abbrev copied : List ℕ
   copied = vectorBytes (job .table .n) (job .state .s)
 
-  abbrev sound : Sound job
-  sound = c .pre .1
+  sound : Sound job
+  sound = kept-sound job (c .pre .0)
+
+  few : job .table .n ≤ 8
+  few = kept-inputs (job .table) (c .pre .0)
 
   -- the room for all of them, and for K and v
   room : from + length ((number ++ current) ++ copied) ≤ length old
-  room = c .pre .2
+  room = c .pre .1
 
   room-current : from + length (number ++ current) ≤ length old
   room-current = omega (arith, room, length-append (number ++ current) copied)
@@ -53,7 +58,7 @@ put-vector-requires c κs =
     let put = c .before .before .before in
     let s = put .before .before .before in
     let v = job s .state .v in (
-      s .pre .0,
+      few s,
       in-range-search (job s .state .k) (job s .table .n) (v .a) (v .b) (sound s .capped) (table-current (job s .table) (sound s)),
       written-room (old s) (from s) (number s) (current s) (room-current s) (put .put-number .ensures),
     )
@@ -71,7 +76,7 @@ put-vector-requires-2 c κs =
     let put = c .before .before .before in
     let s = put .before .before .before .before .before .before .before in
     let v = job s .state .s in (
-      s .pre .0,
+      few s,
       in-range-search (job s .state .k) (job s .table .n) (v .a) (v .b) (sound s .capped) (table-copied (job s .table) (sound s)),
       written-room (old s) (from s) (number s ++ current s) (copied s) (room s) (current-put put),
     )
