@@ -25,8 +25,8 @@ kept-few (ofJob j) kept = kept-inputs (j .table) kept
 is-open : (j : Job) {others : List Rule} → NoneBroken (hasEnded j ∷ others) → j .state .stage ≡ Open
 is-open j (also b rest) = open-stage (j .state .stage) b
 
-pub kept-open : (j : Job) {others : List Rule} → NoneBroken (recordRules (ofJob j) others) → j .state .stage ≡ Open
-kept-open j kept = is-open j (job-others-kept j kept)
+pub kept-open : (j : Job) (others : List Rule) → NoneBroken (recordRules (ofJob j) others) → j .state .stage ≡ Open
+kept-open j others kept = is-open j {others = others} (job-others-kept j {others = hasEnded j ∷ others} kept)
 
 -- and keeps its own rules
 pub kept-job : (j : Job) → Kept (ofJob j) → NoneBroken (jobRules j [])

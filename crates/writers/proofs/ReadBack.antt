@@ -98,7 +98,7 @@ rest-read (ofWitness t w) others (long, full) kept s at stands =
     let fit = witness-fits t w kept in
     ap (λ (r : Reading RowList). onward r (λ list next. answered (field (ofWitness t (record { counts = list .counts })) next)))
     (rows-read true (rows t) (w .counts) s at (rows-le (kept-inputs t kept)) full (fit .limit) (fit .past) (λ e. fit .some) stands)
-rest-read (ofJob j) others held kept s at stands = job-read j (kept-inputs (j .table) kept) (kept-sound j kept) (kept-open j kept) s at stands
+rest-read (ofJob j) others held kept s at stands = job-read j (kept-inputs (j .table) kept) (kept-sound j kept) (kept-open j others kept) s at stands
 
 table-taken : (x : Record) (others : List Rule) → NoneBroken (recordRules x others) → NoneBroken (tableRules (tableIn x) [])
 table-taken (ofTable t) others kept = table-kept t kept

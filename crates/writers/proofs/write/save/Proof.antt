@@ -1,4 +1,5 @@
 -- `writers::write::save` meets its contract: the law of a call that writes, at an open job. Assumes nothing.
+use mathlib.Core.List.{[]}
 use native.Mathlib.Omega.{arith}
 use borrow.Author.Needs.{needs}
 use Rattle.records.specs.Record.{ofJob}
@@ -31,7 +32,7 @@ put-job-requires c κs =
     let fits = put .before .before in
     let told = fits .before .before in
     let j = told .before .before .before .before .args .job in
-    (kept-job j (passed told .kept), kept-open j (passed told .kept), body-room (passed told) (fits .before .job-length .ensures) (fits .if1 .left) (put .put-kind .ensures))
+    (kept-job j (passed told .kept), kept-open j [] (passed told .kept), body-room (passed told) (fits .before .job-length .ensures) (fits .if1 .left) (put .put-kind .ensures))
 
 returns-3 : tie.Need-returns-3
 returns-3 c =
