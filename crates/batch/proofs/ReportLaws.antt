@@ -22,8 +22,8 @@ use Rattle.reporting.specs.Lines.{lastLine, tooLongLine}
 use Rattle.reporting.specs.Report.{inputMost, noTally, counted, recordThen, reportFrom, report}
 use Rattle.job.specs.Machine.{decided}
 use Rattle.job.proofs.DecidedLaws.{decided-capped}
-use Rattle.batch.specs.declared.progress.Step.{Step}
-use Rattle.batch.specs.declared.progress.Step.the-variants.{Records, Last, Done}
+use Rattle.batch.specs.declared.progress.Phase.{Phase}
+use Rattle.batch.specs.declared.progress.Phase.the-variants.{Records, Last, Done}
 use Rattle.batch.specs.declared.progress.Progress.{Progress}
 use Rattle.batch.specs.Progress.{Advance, progress, start, Bounded, advanceBy, lastOf, pickAdvance, advanceIn, advance, linesFrom, after}
 
@@ -32,7 +32,7 @@ use Rattle.batch.specs.Progress.{Advance, progress, start, Bounded, adva
 -- so many lines from there are a text, and the report is then done
 record Comes (m : ℕ) (s : List ℕ) (p : Progress) (text : List ℕ) : Type 0 where
   lines : linesFrom m s p ≡ text
-  done : (after m s p) .step ≡ Done
+  done : (after m s p) .phase ≡ Done
 
 -- one line, and what comes after it
 comes-next : (m : ℕ) (s : List ℕ) (p : Progress) (a : Advance) (text : List ℕ) → advance s p ≡ a → Comes m s (a .next) text → Comes (suc m) s p (a .line ++ text)
@@ -87,7 +87,7 @@ module _ (s : List ℕ) where
   lines-are-report l m h = rw (le-ltb inputMost (length s) l) (whole m h .lines)
 
   -- and then it is done
-  pub ends : (m : ℕ) → length s + 2 ≤ m → (after m s start) .step ≡ Done
+  pub ends : (m : ℕ) → length s + 2 ≤ m → (after m s start) .phase ≡ Done
   ends m h = whole m h .done
 
   -- of an input that is too long, the report is one line
@@ -112,7 +112,7 @@ bounded-counted p next Binate k b f n c = omega arith
 -- and after every line
 pub bounded-next : (s : List ℕ) (p : Progress) → length s ≤ inputMost → Bounded p → Bounded (advance s p .next)
 unfolding advance
-bounded-next s p l b = by (p .step)
+bounded-next s p l b = by (p .phase)
   where
     by-record : (r : Reading Table) → tableRecordAt s (p .at) ≡ r → Bounded (advanceBy (p .at) (p .tally) r .next)
     by-record (refused n) e = omega arith
@@ -127,7 +127,7 @@ bounded-next s p l b = by (p .step)
     by-test true = by-record (tableRecordAt s (p .at)) refl
     by-test false = omega arith
 
-    by : (step : Step) → Bounded (advanceIn step s p .next)
+    by : (phase : Phase) → Bounded (advanceIn phase s p .next)
     by Records = by-test (ltb (p .at) (length s))
     by Last = omega arith
     by Done = b
