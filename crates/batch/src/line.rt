@@ -10,7 +10,6 @@ use reporting::line::refusal_line;
 use reporting::tally::Tally;
 use reporting::tally::with_record;
 use stepping::decided::decided_by;
-ghost use mathlib.Core.Path.{_≡_};
 ghost use Prim.Native.Nat.{_≤_};
 ghost use lib.ListN.{length};
 ghost use Rattle.numbers.specs.Tabulate.{Holds};

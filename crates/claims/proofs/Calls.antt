@@ -14,7 +14,7 @@ use Rattle.cell.proofs.RefusalLaws.{refused-first-broken, first-broken-refused,
 use Rattle.job.specs.declared.job.Job.{Job}
 use Rattle.job.specs.Machine.{run}
 use Rattle.job.specs.Sound.{cap, Sound}
-use Rattle.job.specs.Calls.{jobRules, budgetRange, pastCap, ifOpen, carryOn, carried}
+use Rattle.job.specs.Calls.{jobRules, budgetRange, pastCap, ifOpen, carried}
 use Rattle.job.proofs.MachineLaws.{found-ended, looped-ended, binate-ended, open-or-ended, run-zero, run-ended}
 use Rattle.job.proofs.Soundness.{run-sound-from}
 use Rattle.job.proofs.JobChecked.{job-others-kept}
@@ -22,7 +22,7 @@ use Rattle.records.specs.Record.{Record, ofJob, recordBytes, readRecord}
 use Rattle.records.specs.Calls.{asRead}
 use Rattle.writers.specs.Calls.{written, lent}
 use Rattle.claims.specs.Records.{ReadsBack}
-use Rattle.claims.specs.Lists.{Call, carryOnBy, saveAndRead, Reply, number, made, saved, After, afterCarry, afterRead, afterSave, called, ofOpen, callRules, onMachine, orLeft, machineReply, accepted}
+use Rattle.claims.specs.Lists.{Call, carryOnBy, saveAndRead, number, After, afterCarry, afterRead, afterSave, called, ofOpen, callRules, onMachine, orLeft, machineReply, accepted}
 use Rattle.claims.proofs.Records.{lent-start}
 
 -- no rule is broken, or one is the first broken

@@ -23,7 +23,7 @@ use Rattle.job.specs.Calls.{callBudget, jobRules, carryOn, gateOf, witnessOf}
 use Rattle.job.proofs.MachineLaws.{fresh-table, run-table}
 use Rattle.job.proofs.Soundness.{run-grows}
 use Rattle.job.proofs.JobChecked.{kept-sound}
-use Rattle.codec.specs.Field.{Field, Reading}
+use Rattle.codec.specs.Field.{Reading}
 use Rattle.codec.specs.Number.{pickBytes}
 use Rattle.codec.specs.TableField.{tableRecordAt}
 use Rattle.codec.proofs.TableFieldLaws.{record-read}
@@ -33,7 +33,7 @@ use Rattle.writers.specs.Calls.{recordRules, tooShort}
 use Rattle.writers.proofs.WriteBack.{write-back}
 use Rattle.reporting.specs.declared.tally.Tally.{Tally}
 use Rattle.text.specs.Text.{decimal, spaced, lineFeed}
-use Rattle.reporting.specs.Lines.{verdictText, recordLine, refusalLine, lastLine, tooLongLine}
+use Rattle.reporting.specs.Lines.{verdictText, recordLine, lastLine, tooLongLine}
 use Rattle.reporting.specs.Report.{inputMost, noTally, counted, recordThen, reportFrom, report}
 use Rattle.job.proofs.DecidedLaws.{decided-table}
 use Rattle.theory.proofs.Answers.{EndedWithout, found-realises, found-accepted, ended-balances, ended-accepted, ended-excludes}

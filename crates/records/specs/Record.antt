@@ -10,9 +10,10 @@ use Rattle.types.specs.declared.witness.Witness.{Witness}
 use Rattle.table.specs.Table.{rows}
 use Rattle.cell.specs.Refusal.{Rule, rule, Answered, answered, checked}
 use Rattle.types.specs.declared.vector.Vector.{Vector}
-use Rattle.machine.specs.Power.{highest}
+use Rattle.numbers.specs.Power.{highest}
 use Rattle.job.specs.declared.job.Job.{Job}
 use Rattle.types.specs.declared.stage.Stage.the-variants.{Open}
+pub use Rattle.job.specs.Calls.{vectorGate}
 use Rattle.job.specs.Sound.{isSound}
 use Rattle.codec.specs.Field.{Reading, field, onward}
 use Rattle.codec.specs.Number.{numberBytes, numberAt}
@@ -35,12 +36,9 @@ family (ofGate t g) = gates
 family (ofWitness t w) = witnesses
 family (ofJob j) = jobs
 
--- the weights and T of a gate as a vector, and back
+-- the weights and T of a gate as a vector; back it is `vectorGate`
 abbrev pub gateVector : Gate → Vector
 gateVector g = record { a = g .weights; b = g .threshold }
-
-abbrev pub vectorGate : ℕ → Vector → Gate
-vectorGate n v = record { n = n; weights = v .a; threshold = v .b }
 
 -- ---- written
 

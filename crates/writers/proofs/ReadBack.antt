@@ -20,7 +20,7 @@ use Rattle.types.specs.declared.vector.Vector.{Vector}
 use Rattle.job.specs.declared.job.Job.{Job}
 use Rattle.types.specs.declared.stage.Stage.{Stage}
 use Rattle.types.specs.declared.stage.Stage.the-variants.{Open}
-use Rattle.machine.specs.Power.{highest}
+use Rattle.numbers.specs.Power.{highest}
 use Rattle.job.specs.Sound.{Sound, isSound, markFor}
 use Rattle.job.proofs.SoundLaws.{is-sound-correct}
 use Rattle.job.proofs.JobChecked.{kept-sound, job-others-kept}

@@ -1,5 +1,5 @@
 -- `line::record_or_refusal` meets its contract: what the reader gave leaves one of the two lines. Assumes nothing.
-use mathlib.Core.Path.{_≡_, refl, sym, ap}
+use mathlib.Core.Path.{_≡_, sym, ap}
 use Prim.Native.Nat.{_+_, _≤_}
 use denote.Ref.{now}
 use borrow.Author.Needs.{needs}

@@ -81,7 +81,7 @@ abbrev start-of2 : tie.After-put-number2 → tie.Start
 start-of2 c = start-of1 (c .before .before .before .before)
 
 at-opens : (c : tie.After-put-number2) → LineLeft (start-of2 c) (c .put-number2 .last .0) (c .put-number2 .result) (from-opens (start-of2 c))
-at-opens c = next-left (witnesses (start-of2 c)) (from-opens (start-of2 c)) (at-witnesses (c .before .before .before .before)) (c .put-number2 .ensures)
+at-opens c = next-left (witnesses (start-of2 c)) (from-opens (start-of2 c)) (at-witnesses (c .before .before .before .before)) {last = c .put-number2 .last .0} (c .put-number2 .ensures)
 
 put-number-requires-3 : tie.Need-put-number-requires-3
 put-number-requires-3 c κs =

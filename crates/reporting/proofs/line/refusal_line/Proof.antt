@@ -58,7 +58,7 @@ put-number-requires c κs =
 at-end : (c : tie.After-put-number) → LineLeft (start-of (c .before .before .before .before)) (c .put-number .last .0) (c .put-number .result) lineFeed
 at-end c =
     let put = c .before .before .before .before in
-    next-left (number-text (start-of put)) lineFeed (at-number put) (c .put-number .ensures)
+    next-left (number-text (start-of put)) lineFeed (at-number put) {last = c .put-number .last .0} (c .put-number .ensures)
 
 put-byte-requires : tie.Need-put-byte-requires
 put-byte-requires c κs = at-end (c .before .before .before) .room

@@ -1,4 +1,4 @@
--- `size::size_of` meets its contract: of a number and its negation, the one that is cast is not negative. Assumes nothing.
+-- `size::absolute` meets its contract: of a number and its negation, the one that is cast is not negative. Assumes nothing.
 use mathlib.Core.Path.{_≡_}
 use mathlib.Core.Bool.{true}
 use Prim.Native.Nat.{_≤_}
@@ -13,8 +13,8 @@ use mir.Facts.{toZ-ofZ}
 use Rattle.numbers.proofs.Int.{up, dn, one-part, natAbs-parts, parts-sub, integers}
 use Rattle.numbers.proofs.Widths.{size-fits}
 use Rattle.table.specs.Gate.{weightLimit}
-use Rattle.lanes.proofs.size.size_of.Statement.{statement}
-use Rattle.lanes.proofs.size.size_of.Tie as tie
+use Rattle.lanes.proofs.size.absolute.Statement.{statement}
+use Rattle.lanes.proofs.size.absolute.Tie as tie
 
 -- a number in range that is not negative is a number without a sign
 unsigned : (z : ℤ) → natAbs z ≤ weightLimit → dn z ≤ up z → T (nonNeg z) × Fits w32 (natAbs z)
@@ -49,5 +49,5 @@ cast-result-2 c =
 returns : tie.Need-returns
 returns c = rw (toZ-ofZ (sub-result c), read (c .before)) (negation-size (c .before .args .x))
 
-pub size-of-spec : {M : Type 1} → statement M
-size-of-spec = tie.close (tie.spec sub-result cast-result cast-result-2 returns (λ c. search needs))
+pub absolute-spec : {M : Type 1} → statement M
+absolute-spec = tie.close (tie.spec sub-result cast-result cast-result-2 returns (λ c. search needs))

@@ -10,7 +10,7 @@ use lib.Dec.{eqb}
 use lib.Pow.{pow-lt, pow-mono}
 use lib.Count.{leadingZeros, leading-top}
 use borrow.Author.Tests.{eqb-true, eqb-false, ne-eqb}
-use Rattle.machine.specs.Power.{highest}
+use Rattle.numbers.specs.Power.{highest}
 
 -- 1 shifted by fewer places than a word has loses nothing
 pub one-shifted : (k : ℕ) → k < 64 → 1 * 2 ^ k % 2 ^ 64 ≡ 2 ^ k

@@ -11,7 +11,7 @@ use native.Mathlib.Omega.{arith}
 use lib.Dec.{eqb}
 use lib.ListN.{getD}
 use Rattle.table.proofs.InputLaws.{lowest-some, lowest-none}
-use Rattle.table.specs.declared.inputs.Lowest.the-variants.{Row, Nowhere}
+use Rattle.table.specs.declared.inputs.Lowest.the-variants.{At, Nowhere}
 use Rattle.table.specs.Table.{rows, value, functionOf}
 use Rattle.table.specs.Gate.{weightLimit, inRange}
 use Rattle.table.specs.Inputs.{lowestOf}
@@ -21,16 +21,16 @@ use Rattle.types.specs.declared.vector.Vector.{Vector}
 use Rattle.function.specs.Failing.{failing}
 use Rattle.function.specs.Vector.{correctedBy, sameVector}
 use Rattle.function.specs.Witness.{oneMore}
-use Rattle.machine.specs.Power.{highest}
+use Rattle.numbers.specs.Power.{highest}
 use Rattle.function.proofs.FailingLaws.{failing-some}
 use Rattle.types.specs.declared.state.State.{State}
 use Rattle.types.specs.declared.stage.Stage.{Stage}
 use Rattle.types.specs.declared.stage.Stage.the-variants as Stage′
 use Rattle.state.specs.Machine.{withStage, markIf, marked, settled, closed, step, run}
 use Rattle.state.specs.Sound.{cap, Shaped, Ranged, Sound}
 use Rattle.state.proofs.MachineLaws.{corrected-is, closed-looped, closed-on, settled-found, settled-open, found-ended, looped-ended, binate-ended, step-open, run-zero, run-suc, run-stays}
-use Rattle.state.proofs.SoundBounds.{in-range-search, table-current, table-copied, sound-in, sound-past, sound-count}
+use Rattle.state.proofs.SoundBounds.{in-range-search, unit-current, unit-copied, sound-in, sound-past, sound-count}
 use Rattle.state.proofs.Soundness.{run-sound-from}
 use Rattle.function.specs.Function.{level}
 
 -- ---- where the loop stands
@@ -73,7 +73,7 @@ module _ {t : Table} {start : State} {m : ℕ} {x : State} (s : Stands t start m
       let passes = lowest-none (failing (functionOf t) (x .v)) f in
       run-stays (functionOf t) start (withStage Stage′.Found x) m budget h (sym (settled-found (functionOf t) x passes) ∙ s .machine) found-ended
 
-  module _ {r : ℕ} (f : lowestOf (failing (functionOf t) (x .v)) ≡ Row r) where
+  module _ {r : ℕ} (f : lowestOf (failing (functionOf t) (x .v)) ≡ At r) where
     fails : failing (functionOf t) (x .v) ≡ some r
     fails = lowest-some (failing (functionOf t) (x .v)) r f
 
@@ -130,9 +130,9 @@ sound-bounded : {t : Table} (stage : Stage) (x : State) → stage ≢ Stage′.B
 sound-bounded {t} stage x n s = record {
   shaped = record { weights = s .shaped .weights; copied = s .shaped .copied; counts = s .shaped .counts };
   capped = s .capped;
-  current = table-current t s;
-  copied = table-copied t s;
-  ranged = in-range-search (x .k) (t .n) (x .v .a) (x .v .b) (s .capped) (table-current t s);
+  current = unit-current refl s;
+  copied = unit-copied refl s;
+  ranged = in-range-search (x .k) (t .n) (x .v .a) (x .v .b) (s .capped) (unit-current refl s);
   count = λ r. omega (arith, sound-count s n r, s .capped);
   past = λ r h. sound-past s r h;
 }
