@@ -1,5 +1,5 @@
 /* Decides two tables. The second is still open after 100,000 corrections: its job is kept as bytes, as a file would keep it, and carried
- * on later. The certificate at the end of each is checked. */
+ * on later. The certificate at the end of each is checked. At last a job is carried on up to the cap. */
 #include <inttypes.h>
 #include <stdio.h>
 #include <string.h>
@@ -29,6 +29,30 @@ static int32_t number(const uint8_t **at) {
 static int32_t signed_number(const uint8_t **at) {
     int32_t code = number(at);
     return code % 2 == 0 ? code / 2 : -(code + 1) / 2;
+}
+
+/* Writes a number and moves past it. */
+static void put_number(uint8_t **at, int32_t value) {
+    for (; value >= 0x80; value >>= 7) {
+        *(*at)++ = (uint8_t)(value | 0x80);
+    }
+    *(*at)++ = (uint8_t)value;
+}
+
+/* Writes a job of the first table, one correction below the cap: since the mark at 2^19 all of them by row 0, so that v is (0, 0, count)
+ * and s is 0. Returns the length. */
+static size_t put_job(uint8_t *job) {
+    int32_t corrections = THRESHOLD_CAP - 1;
+    int32_t count = corrections - (1 << 19);
+    const int32_t numbers[] = {corrections, 0, 0, 2 * count, 0, 0, 0, 1, 0, count};
+    uint8_t *at = job;
+    *at++ = THRESHOLD_RECORD_JOB;
+    memcpy(at, both + 1, sizeof both - 1);
+    at += sizeof both - 1;
+    for (size_t i = 0; i < sizeof numbers / sizeof numbers[0]; i++) {
+        put_number(&at, numbers[i]);
+    }
+    return (size_t)(at - job);
 }
 
 /* Prints the weights and T of a gate's record. */
@@ -96,5 +120,11 @@ int main(void) {
     print_answer("slow, cut short", out, length, made);
     length = threshold_decide(saved, saved_length, out, sizeof out, &made);
     print_answer("slow, its job decided as a table", out, length, made);
+
+    saved_length = put_job(saved);
+    length = threshold_carry_on(saved, saved_length, 2, out, sizeof out, &made);
+    print_answer("both, past the cap", out, length, made);
+    length = threshold_carry_on(saved, saved_length, 1, out, sizeof out, &made);
+    print_answer("both, at the cap", out, length, made);
     return 0;
 }

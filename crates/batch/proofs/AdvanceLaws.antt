@@ -14,7 +14,7 @@ use Rattle.reporting.specs.declared.tally.Tally.{Tally}
 use Rattle.reporting.specs.Lines.{recordLine}
 use Rattle.job.specs.Machine.{decided}
 use Rattle.reporting.specs.Report.{inputMost, counted}
-use Rattle.batch.specs.declared.progress.Step.the-variants.{Records, Last, Done}
+use Rattle.batch.specs.declared.progress.Phase.the-variants.{Records, Last, Done}
 use Rattle.batch.specs.declared.progress.Progress.{Progress}
 use Rattle.batch.specs.declared.line.Line.{Line}
 use Rattle.batch.specs.Progress.{Advance, Made, progress, Bounded, advanceBy, lastOf, advance}
@@ -31,22 +31,22 @@ record-made at t f old e q put = rw (← e) (put, ap (λ (u : Tally). progress (
 
 module _ (s : List ℕ) (p : Progress) where
   -- while bytes are left, the line of a record
-  pub at-record : p .step ≡ Records → p .at < length s → advanceBy (p .at) (p .tally) (tableRecordAt s (p .at)) ≡ advance s p
+  pub at-record : p .phase ≡ Records → p .at < length s → advanceBy (p .at) (p .tally) (tableRecordAt s (p .at)) ≡ advance s p
   unfolding advance
   at-record e h = rw (e, lt-ltb (p .at) (length s) h)
 
   -- after the last record, the last line
-  pub at-end : p .step ≡ Records → length s ≤ p .at → lastOf (p .at) (p .tally) ≡ advance s p
+  pub at-end : p .phase ≡ Records → length s ≤ p .at → lastOf (p .at) (p .tally) ≡ advance s p
   unfolding advance
   at-end e h = rw (e, le-ltb (p .at) (length s) h)
 
   -- as after a refusal
-  pub at-last : p .step ≡ Last → lastOf (p .at) (p .tally) ≡ advance s p
+  pub at-last : p .phase ≡ Last → lastOf (p .at) (p .tally) ≡ advance s p
   unfolding advance
   at-last e = rw e
 
   -- and then nothing
-  pub at-done : p .step ≡ Done → record { line = []; next = p } ≡ advance s p
+  pub at-done : p .phase ≡ Done → record { line = []; next = p } ≡ advance s p
   unfolding advance
   at-done e = rw e
 

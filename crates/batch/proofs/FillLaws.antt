@@ -72,7 +72,7 @@ module _ {s : List ℕ} {p : Progress} {old new : List ℕ} {size : ℕ} {at : P
   full-some {count = suc m} lined h k = omega arith
 
   -- a report that was not done, and is, has a line
-  pub done-some : {count : ℕ} → Lined s p old new count size at → isDone (at .step) ≡ true → isDone (p .step) ≡ false → 1 ≤ count
+  pub done-some : {count : ℕ} → Lined s p old new count size at → isDone (at .phase) ≡ true → isDone (p .phase) ≡ false → 1 ≤ count
   unfolding after
   done-some {count = zero} lined e f = absurd (let same : at ≡ p = lined .next in let z : _≡_ {A = ℕ} 0 1 = cc in omega arith)
   done-some {count = suc m} lined e f = omega arith

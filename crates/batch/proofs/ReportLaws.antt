@@ -1,7 +1,7 @@
 -- The lines of a report one after another are the report, and come to an end; its numbers stay within their bounds along the way. Assumes
 -- nothing.
 use mathlib.Core.Path.{_≡_, refl, ap}
-use mathlib.Core.Bool.{Bool, true, false}
+use mathlib.Core.Bool.{Bool, true, false, cond}
 use mathlib.Core.List.{List, [], _++_, append-nil}
 use Prim.Native.Nat.{ℕ, zero, suc, _+_, _≤_, _<_}
 use native.Mathlib.Omega.{arith}
@@ -13,7 +13,6 @@ use Rattle.types.specs.declared.stage.Stage.{Stage}
 use Rattle.types.specs.declared.stage.Stage.the-variants.{Open, Found, Looped, Binate}
 use Rattle.job.specs.Sound.{cap}
 use Rattle.codec.specs.Field.{Field, Reading}
-use Rattle.codec.specs.Number.{pickBytes}
 use Rattle.types.specs.declared.table.Table.{Table}
 use Rattle.codec.specs.TableField.{tableRecordAt}
 use Rattle.codec.proofs.TableFieldLaws.{record-read}
@@ -22,17 +21,17 @@ use Rattle.reporting.specs.Lines.{lastLine, tooLongLine}
 use Rattle.reporting.specs.Report.{inputMost, noTally, counted, recordThen, reportFrom, report}
 use Rattle.job.specs.Machine.{decided}
 use Rattle.job.proofs.DecidedLaws.{decided-capped}
-use Rattle.batch.specs.declared.progress.Step.{Step}
-use Rattle.batch.specs.declared.progress.Step.the-variants.{Records, Last, Done}
+use Rattle.batch.specs.declared.progress.Phase.{Phase}
+use Rattle.batch.specs.declared.progress.Phase.the-variants.{Records, Last, Done}
 use Rattle.batch.specs.declared.progress.Progress.{Progress}
-use Rattle.batch.specs.Progress.{Advance, progress, start, Bounded, advanceBy, lastOf, pickAdvance, advanceIn, advance, linesFrom, after}
+use Rattle.batch.specs.Progress.{Advance, progress, start, Bounded, advanceBy, lastOf, advanceIn, advance, linesFrom, after}
 
 -- ---- the lines are the report
 
 -- so many lines from there are a text, and the report is then done
 record Comes (m : ℕ) (s : List ℕ) (p : Progress) (text : List ℕ) : Type 0 where
   lines : linesFrom m s p ≡ text
-  done : (after m s p) .step ≡ Done
+  done : (after m s p) .phase ≡ Done
 
 -- one line, and what comes after it
 comes-next : (m : ℕ) (s : List ℕ) (p : Progress) (a : Advance) (text : List ℕ) → advance s p ≡ a → Comes m s (a .next) text → Comes (suc m) s p (a .line ++ text)
@@ -74,7 +73,7 @@ module _ (s : List ℕ) where
       rest = reportFrom left s
 
       by : (b : Bool) → ltb at (length s) ≡ b → ((f : Field Table) (u : Tally) → tableRecordAt s at ≡ answered f → Comes m s (progress (f .next) u Records) (rest (f .next) u))
-          → Comes (suc m) s (progress at t Records) (pickBytes b (recordThen rest t (tableRecordAt s at)) (lastLine t))
+          → Comes (suc m) s (progress at t Records) (cond b (recordThen rest t (tableRecordAt s at)) (lastLine t))
       by true e later = comes-record rest m at t (tableRecordAt s at) (omega (arith, ltb-true at (length s) e)) (rw e) later
       by false e later = comes-last (suc m) (progress at t Records) (omega arith) (rw e)
 
@@ -87,7 +86,7 @@ module _ (s : List ℕ) where
   lines-are-report l m h = rw (le-ltb inputMost (length s) l) (whole m h .lines)
 
   -- and then it is done
-  pub ends : (m : ℕ) → length s + 2 ≤ m → (after m s start) .step ≡ Done
+  pub ends : (m : ℕ) → length s + 2 ≤ m → (after m s start) .phase ≡ Done
   ends m h = whole m h .done
 
   -- of an input that is too long, the report is one line
@@ -112,7 +111,7 @@ bounded-counted p next Binate k b f n c = omega arith
 -- and after every line
 pub bounded-next : (s : List ℕ) (p : Progress) → length s ≤ inputMost → Bounded p → Bounded (advance s p .next)
 unfolding advance
-bounded-next s p l b = by (p .step)
+bounded-next s p l b = by (p .phase)
   where
     by-record : (r : Reading Table) → tableRecordAt s (p .at) ≡ r → Bounded (advanceBy (p .at) (p .tally) r .next)
     by-record (refused n) e = omega arith
@@ -123,11 +122,11 @@ bounded-next s p l b = by (p .step)
         (omega (arith, record-read s (p .at) f e .within))
         (decided-capped t (record-read s (p .at) f e .taken))
 
-    by-test : (a : Bool) → Bounded (pickAdvance a (advanceBy (p .at) (p .tally) (tableRecordAt s (p .at))) (lastOf (p .at) (p .tally)) .next)
+    by-test : (a : Bool) → Bounded (cond a (advanceBy (p .at) (p .tally) (tableRecordAt s (p .at))) (lastOf (p .at) (p .tally)) .next)
     by-test true = by-record (tableRecordAt s (p .at)) refl
     by-test false = omega arith
 
-    by : (step : Step) → Bounded (advanceIn step s p .next)
+    by : (phase : Phase) → Bounded (advanceIn phase s p .next)
     by Records = by-test (ltb (p .at) (length s))
     by Last = omega arith
     by Done = b

@@ -16,4 +16,4 @@ pub record Filled (s : List ℕ) (p : Progress) (old new : List ℕ) (r : Lines)
   pub fits : r .length ≤ length old
   pub next : r .next ≡ after (r .count) s p
   pub bounded : Bounded (r .next)
-  pub some : isDone (p .step) ≡ false → 1 ≤ r .count
+  pub some : isDone (p .phase) ≡ false → 1 ≤ r .count

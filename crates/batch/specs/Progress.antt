@@ -1,6 +1,6 @@
 -- A report line by line (document 01, "Kinds, Chow, report"). Definitions only. Assumes nothing.
 use mathlib.Core.Path.{_≡_}
-use mathlib.Core.Bool.{Bool, true, false}
+use mathlib.Core.Bool.{Bool, true, false, cond}
 use mathlib.Core.List.{List, [], _++_}
 use Prim.Native.Nat.{ℕ, zero, suc, _+_, _*_, _≤_}
 use lib.Dec.{ltb}
@@ -15,8 +15,8 @@ use Rattle.reporting.specs.declared.tally.Tally.{Tally}
 use Rattle.reporting.specs.Lines.{recordLine, refusalLine, lastLine}
 use Rattle.job.specs.Machine.{decided}
 use Rattle.reporting.specs.Report.{inputMost, noTally, counted}
-use Rattle.batch.specs.declared.progress.Step.{Step}
-use Rattle.batch.specs.declared.progress.Step.the-variants.{Records, Last, Done}
+use Rattle.batch.specs.declared.progress.Phase.{Phase}
+use Rattle.batch.specs.declared.progress.Phase.the-variants.{Records, Last, Done}
 use Rattle.batch.specs.declared.progress.Progress.{Progress}
 use Rattle.batch.specs.declared.line.Line.{Line}
 
@@ -29,14 +29,14 @@ pub record Advance : Type 0 where
 abbrev pub Made : Advance → (old new : List ℕ) → Line → Type 0
 Made a old new r = Put old 0 (a .line) new (r .length) × (r .next ≡ a .next)
 
-abbrev pub progress : ℕ → Tally → Step → Progress
-progress at t step = record { at = at; tally = t; step = step }
+abbrev pub progress : ℕ → Tally → Phase → Progress
+progress at t phase = record { at = at; tally = t; phase = phase }
 
 abbrev pub start : Progress
 start = progress 0 noTally Records
 
 -- whether no line is left
-abbrev pub isDone : Step → Bool
+abbrev pub isDone : Phase → Bool
 isDone Records = false
 isDone Last = false
 isDone Done = true
@@ -50,26 +50,27 @@ pub record Bounded (p : Progress) : Type 0 where
   pub opens : p .tally .opens ≤ p .tally .records
   pub sum : p .tally .sum ≤ cap * p .tally .records
 
+-- the line of a refusal
+abbrev pub refusalOf : ℕ → Tally → ℕ → Advance
+refusalOf at t n = record { line = refusalLine (t .records + 1) n; next = progress at t Last }
+
 -- the line of the record at a position, or of its refusal
 abbrev pub advanceBy : ℕ → Tally → Reading Table → Advance
-advanceBy at t (refused n) = record { line = refusalLine (t .records + 1) n; next = progress at t Last }
+advanceBy at t (refused n) = refusalOf at t n
 advanceBy at t (answered f) =
     record { line = recordLine (t .records + 1) (decided (f .value)); next = progress (f .next) (counted (decided (f .value) .state .stage) (decided (f .value) .state .k) t) Records }
 
+-- the last line
 abbrev pub lastOf : ℕ → Tally → Advance
 lastOf at t = record { line = lastLine t; next = progress at t Done }
 
-abbrev pub pickAdvance : Bool → Advance → Advance → Advance
-pickAdvance true a b = a
-pickAdvance false a b = b
-
-abbrev pub advanceIn : Step → List ℕ → Progress → Advance
-advanceIn Records s p = pickAdvance (ltb (p .at) (length s)) (advanceBy (p .at) (p .tally) (tableRecordAt s (p .at))) (lastOf (p .at) (p .tally))
+abbrev pub advanceIn : Phase → List ℕ → Progress → Advance
+advanceIn Records s p = cond (ltb (p .at) (length s)) (advanceBy (p .at) (p .tally) (tableRecordAt s (p .at))) (lastOf (p .at) (p .tally))
 advanceIn Last s p = lastOf (p .at) (p .tally)
 advanceIn Done s p = record { line = []; next = p }
 
 unfoldable pub advance : List ℕ → Progress → Advance
-advance s p = advanceIn (p .step) s p
+advance s p = advanceIn (p .phase) s p
 
 -- so many lines, one after another
 unfoldable pub linesFrom : ℕ → List ℕ → Progress → List ℕ

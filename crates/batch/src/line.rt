@@ -1,6 +1,6 @@
 // The next line of a report, made at the start of a lent buffer.
+use crate::progress::Phase;
 use crate::progress::Progress;
-use crate::progress::Step;
 use cell::refusal::Status;
 use job::job::Job;
 use receiving::record::table_at;
@@ -10,7 +10,6 @@ use reporting::line::refusal_line;
 use reporting::tally::Tally;
 use reporting::tally::with_record;
 use stepping::decided::decided_by;
-ghost use mathlib.Core.Path.{_≡_};
 ghost use Prim.Native.Nat.{_≤_};
 ghost use lib.ListN.{length};
 ghost use Rattle.numbers.specs.Tabulate.{Holds};
@@ -18,7 +17,7 @@ ghost use Rattle.correction.specs.Steps.{stepAt};
 ghost use Rattle.codec.specs.TableField.{tableRecordAt};
 ghost use Rattle.reporting.specs.Lines.{lineRoom};
 ghost use Rattle.reporting.specs.Report.{inputMost, Within};
-ghost use Rattle.batch.specs.Progress.{Bounded, Made, lastOf, advanceBy, advance};
+ghost use Rattle.batch.specs.Progress.{Bounded, Made, refusalOf, lastOf, advanceBy, advance};
 
 // The length of a line, and how far the report is after it.
 pub struct Line {
@@ -27,7 +26,7 @@ pub struct Line {
 }
 
 // Makes the last line.
-fn ended(at: usize, tally: Tally, out: &mut [u8]) -> Line
+fn last(at: usize, tally: Tally, out: &mut [u8]) -> Line
     requires { ⌜ Within tally × (lineRoom ≤ length (now out)) ⌝ }
     ensures { λ r. ⌜ Made (lastOf at tally) (now (out .entry)) (now (out .exit)) r ⌝ }
     ensures { λ r. ⌜ r .length ≤ lineRoom ⌝ }
@@ -38,7 +37,24 @@ fn ended(at: usize, tally: Tally, out: &mut [u8]) -> Line
         next: Progress {
             at,
             tally,
-            step: Step::Done,
+            phase: Phase::Done,
+        },
+    }
+}
+
+// Makes the line of a refusal.
+fn refusal(at: usize, tally: Tally, number: u8, out: &mut [u8]) -> Line
+    requires { ⌜ Within tally × (lineRoom ≤ length (now out)) ⌝ }
+    ensures { λ r. ⌜ Made (refusalOf at tally number) (now (out .entry)) (now (out .exit)) r ⌝ }
+    ensures { λ r. ⌜ r .length ≤ lineRoom ⌝ }
+{
+    let length = refusal_line(out, tally.records + 1, number);
+    Line {
+        length,
+        next: Progress {
+            at,
+            tally,
+            phase: Phase::Last,
         },
     }
 }
@@ -58,15 +74,7 @@ fn record_or_refusal(
     let record = table_at(input, at);
     let status = record.status;
     if let Status::Refused(number) = status {
-        let length = refusal_line(out, tally.records + 1, number);
-        return Line {
-            length,
-            next: Progress {
-                at,
-                tally,
-                step: Step::Last,
-            },
-        };
+        return refusal(at, tally, number, out);
     }
     let table = record.table;
     let job = Job {
@@ -81,7 +89,7 @@ fn record_or_refusal(
         next: Progress {
             at: record.next,
             tally: with_record(tally, stage, state.k),
-            step: Step::Records,
+            phase: Phase::Records,
         },
     }
 }
@@ -93,17 +101,17 @@ pub fn next_line(input: &[u8], progress: Progress, steps: &[i16; 2048], out: &mu
     ensures { λ r. ⌜ Bounded (r .next) × (r .length ≤ lineRoom) ⌝ }
 {
     let tally = progress.tally;
-    let step = progress.step;
-    match step {
-        Step::Records => {
+    let phase = progress.phase;
+    match phase {
+        Phase::Records => {
             if progress.at < input.len() {
                 record_or_refusal(input, progress.at, tally, steps, out)
             } else {
-                ended(progress.at, tally, out)
+                last(progress.at, tally, out)
             }
         }
-        Step::Last => ended(progress.at, tally, out),
-        Step::Done => Line {
+        Phase::Last => last(progress.at, tally, out),
+        Phase::Done => Line {
             length: 0,
             next: progress,
         },

@@ -5,7 +5,7 @@ ghost use mathlib.Core.Path.{_≡_};
 ghost use Rattle.batch.specs.Progress.{start, isDone};
 
 // What comes next: a record, or the last line after a refusal, or nothing.
-pub enum Step {
+pub enum Phase {
     Records,
     Last,
     Done,
@@ -15,7 +15,7 @@ pub enum Step {
 pub struct Progress {
     pub at: usize,
     pub tally: Tally,
-    pub step: Step,
+    pub phase: Phase,
 }
 
 // Returns the start of a report.
@@ -25,18 +25,18 @@ pub fn at_start() -> Progress
     Progress {
         at: 0,
         tally: no_tally(),
-        step: Step::Records,
+        phase: Phase::Records,
     }
 }
 
 // Returns whether a report has no line left.
 pub fn is_done(progress: Progress) -> bool
-    ensures { λ r. ⌜ r ≡ isDone (progress .step) ⌝ }
+    ensures { λ r. ⌜ r ≡ isDone (progress .phase) ⌝ }
 {
-    let step = progress.step;
-    match step {
-        Step::Records => false,
-        Step::Last => false,
-        Step::Done => true,
+    let phase = progress.phase;
+    match phase {
+        Phase::Records => false,
+        Phase::Last => false,
+        Phase::Done => true,
     }
 }

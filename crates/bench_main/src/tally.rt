@@ -59,8 +59,7 @@ fn way_of(kind: Kind) -> u8 {
         Kind::Table => 1,
         Kind::Gate => 2,
         Kind::Witness => ways::LAST,
-        Kind::Job => 0,
-        Kind::Refused(_) => 0,
+        _ => 0,
     }
 }
 

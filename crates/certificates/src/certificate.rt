@@ -20,7 +20,7 @@ pub fn check_read(given: Read) -> i64
     match kind {
         Kind::Gate => yes_or_no(check_gate(given.table, given.gate)),
         Kind::Witness => yes_or_no(check_witness(given.table, given.witness)),
-        Kind::Table | Kind::Job | Kind::Refused(_) => not_taken(kind),
+        _ => not_taken(kind), // it holds no certificate
     }
 }
 
@@ -46,6 +46,6 @@ pub fn value_read(given: Read, row: u32) -> i64
     match kind {
         Kind::Table => yes_or_no(table_value(given.table, row as usize)),
         Kind::Gate => yes_or_no(gate_value(given.gate, row as usize)),
-        Kind::Witness | Kind::Job | Kind::Refused(_) => not_taken(kind),
+        _ => not_taken(kind), // it has no value on a row
     }
 }

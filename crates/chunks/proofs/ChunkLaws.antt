@@ -19,7 +19,7 @@ use Rattle.types.specs.declared.vector.Vector.{Vector}
 use Rattle.function.specs.Failing.{failing}
 use Rattle.function.specs.Vector.{correctedBy, sameVector}
 use Rattle.function.specs.Witness.{zeros, oneMore}
-use Rattle.machine.specs.Power.{highest}
+use Rattle.numbers.specs.Power.{highest}
 use Rattle.function.proofs.VectorLaws.{length-corrected}
 use Rattle.function.proofs.CountLaws.{length-one-more, one-more-other}
 use Rattle.function.proofs.FailingLaws.{failing-some}
@@ -35,7 +35,7 @@ use Rattle.state.specs.Sound.{cap, Sound}
 use Rattle.chunks.proofs.CodeLaws.{code-below, no-row, row-is}
 use Rattle.state.proofs.MachineLaws.{marked-power, marked-other}
 use Rattle.state.proofs.StepSound.{with-stage-same}
-use Rattle.state.proofs.StandsLaws.{Stands, stands-found, stands-row, stands-open, stands-looped, moved, stands-next, Bounded, stands-bounded}
+use Rattle.chunks.proofs.StandsLaws.{Stands, stands-found, stands-row, stands-open, stands-looped, moved, stands-next, Bounded, stands-bounded}
 use Rattle.chunks.proofs.ClearLaws.{uncounted, cleared-zeros}
 use Rattle.chunks.proofs.FollowLaws.{withVectors, marking, Follows, Searches, Corrects, Compares, Restores}
 use Rattle.function.specs.Function.{level}

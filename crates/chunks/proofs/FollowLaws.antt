@@ -20,7 +20,7 @@ use Rattle.types.specs.declared.stage.Stage.{Stage}
 use Rattle.types.specs.declared.stage.Stage.the-variants as Stage′
 use Rattle.state.specs.Machine.{withStage}
 use Rattle.state.specs.Sound.{Sound}
-use Rattle.state.proofs.StandsLaws.{Stands, stands-start}
+use Rattle.chunks.proofs.StandsLaws.{Stands, stands-start}
 use Rattle.table.specs.Table.{functionOf}
 use Rattle.function.specs.Function.{level}
 

@@ -1,3 +1,5 @@
+-- a loop that searches ahead, beside the machine
+pub mod StandsLaws
 -- the code of the row that a search found
 pub mod CodeLaws
 -- what clearing the counts leaves

@@ -1,13 +1,12 @@
 // A chunk of steps in the fast form: the vectors are sums in places of 16 bits, and become vectors again at its end.
 use crate::core::Core;
+use crate::core::core_with;
 use correction::correction::correct;
 use lanes::sums::same_sums;
 use lanes::sums::sums_of;
 use lanes::sums::vector_of;
 use machine::power::top_power;
-use search::keys::lane_values;
-use search::keys::store_keys;
-use search::keys::store_ones;
+use search::keys::store_rows;
 use search::search::lowest;
 use table::table::row_count;
 use types::stage::Stage;
@@ -68,11 +67,9 @@ pub fn chunk(
     ensures { λ r. ⌜ stateOf r (now (counts .exit)) ≡ run (functionOf table) budget (stateOf core (now (counts .entry))) ⌝ }
 {
     let rows = row_count(table.n);
-    let values = lane_values(table);
     let mut ones = [0i16; 256];
-    store_ones(&mut ones, table, &values);
     let mut keys = [0i16; 256];
-    store_keys(&mut keys, table, &values);
+    store_rows(&mut ones, &mut keys, table);
     let mut j = core;
     let mut v = sums_of(j.v);
     let mut s = sums_of(j.s);
@@ -95,11 +92,5 @@ pub fn chunk(
         }
         made = made + 1;
     }
-    Core {
-        k: j.k,
-        v: vector_of(&v),
-        mark: j.mark,
-        s: vector_of(&s),
-        stage: stage_of(next),
-    }
+    core_with(j, vector_of(&v), vector_of(&s), stage_of(next))
 }

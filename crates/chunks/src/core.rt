@@ -3,7 +3,7 @@ use types::stage::Stage;
 use types::state::State;
 use types::vector::Vector;
 ghost use mathlib.Core.Path.{_≡_};
-ghost use Rattle.chunks.specs.Core.{stateOf};
+ghost use Rattle.chunks.specs.Core.{stateOf, coreWith};
 
 // A state but for its counts.
 pub struct Core {
@@ -25,6 +25,19 @@ pub fn core_of(state: State) -> Core
         k: state.k,
         v,
         mark: state.mark,
+        s,
+        stage,
+    }
+}
+
+// Returns the core with other vectors, in a stage.
+pub fn core_with(core: Core, v: Vector, s: Vector, stage: Stage) -> Core
+    ensures { λ r. ⌜ r ≡ coreWith core v s stage ⌝ }
+{
+    Core {
+        k: core.k,
+        v,
+        mark: core.mark,
         s,
         stage,
     }

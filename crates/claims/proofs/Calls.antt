@@ -14,7 +14,7 @@ use Rattle.cell.proofs.RefusalLaws.{refused-first-broken, first-broken-refused,
 use Rattle.job.specs.declared.job.Job.{Job}
 use Rattle.job.specs.Machine.{run}
 use Rattle.job.specs.Sound.{cap, Sound}
-use Rattle.job.specs.Calls.{jobRules, budgetRange, pastCap, ifOpen, carryOn, carried}
+use Rattle.job.specs.Calls.{jobRules, budgetRange, pastCap, ifOpen, carried}
 use Rattle.job.proofs.MachineLaws.{found-ended, looped-ended, binate-ended, open-or-ended, run-zero, run-ended}
 use Rattle.job.proofs.Soundness.{run-sound-from}
 use Rattle.job.proofs.JobChecked.{job-others-kept}
@@ -22,7 +22,7 @@ use Rattle.records.specs.Record.{Record, ofJob, recordBytes, readRecord}
 use Rattle.records.specs.Calls.{asRead}
 use Rattle.writers.specs.Calls.{written, lent}
 use Rattle.claims.specs.Records.{ReadsBack}
-use Rattle.claims.specs.Lists.{Call, carryOnBy, saveAndRead, Reply, number, made, saved, After, afterCarry, afterRead, afterSave, called, ofOpen, callRules, onMachine, orLeft, machineReply, accepted}
+use Rattle.claims.specs.Lists.{Call, carryOnBy, saveAndRead, number, After, afterCarry, afterRead, afterSave, called, ofOpen, callRules, onMachine, orLeft, machineReply, accepted}
 use Rattle.claims.proofs.Records.{lent-start}
 
 -- no rule is broken, or one is the first broken
@@ -129,6 +129,10 @@ carry-in Found m b same = rw (same found-ended)
 carry-in Looped m b same = rw (same looped-ended)
 carry-in Binate m b same = rw (same binate-ended)
 
+-- what an accepted carry-on returns: what the machine's K grows by, and its job
+carried-is : (m : Job) (b : ℕ) → afterCarry (carried m (answered (run b m))) ≡ onMachine m (carryOnBy b)
+carried-is m b = refl
+
 -- a carry-on gives the machine's reply
 carry-is : (m : Job) (b : ℕ) → called m (carryOnBy b) ≡ machineReply m (carryOnBy b)
 carry-is m b = by (judged rules)
@@ -139,6 +143,7 @@ carry-is m b = by (judged rules)
     by : Judged rules → called m (carryOnBy b) ≡ machineReply m (carryOnBy b)
     by (inl kept) =
         ap (λ (a : Answered Job). afterCarry (carried m a)) (carry-in (m .state .stage) m b (run-ended b m) ∙ none-broken-answered rules (answered (run b m)) kept)
+        ∙ carried-is m b
         ∙ sym (reply-kept m (carryOnBy b) kept)
     by (inr (n, first)) =
         ap (λ (a : Answered Job). afterCarry (carried m a)) (carry-in (m .state .stage) m b (run-ended b m) ∙ first-broken-refused rules (answered (run b m)) n first)

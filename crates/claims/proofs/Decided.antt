@@ -1,7 +1,7 @@
 -- What is decided is right: a job that keeps its rules is sound, so what it has come to is right by its stage, in whatever form it is
 -- shown. The report's lines go by induction over its records. Assumes nothing.
 use mathlib.Core.Path.{_≡_, refl, sym, _∙_, ap, subst}
-use mathlib.Core.Bool.{Bool, true, false}
+use mathlib.Core.Bool.{Bool, true, false, cond}
 use mathlib.Core.Logic.{inl, inr}
 use mathlib.Core.List.{List, [], _∷_, _++_}
 use Prim.Native.Nat.{ℕ, zero, suc, _+_, _-_, _≤_, _<_}
@@ -23,8 +23,7 @@ use Rattle.job.specs.Calls.{callBudget, jobRules, carryOn, gateOf, witnessOf}
 use Rattle.job.proofs.MachineLaws.{fresh-table, run-table}
 use Rattle.job.proofs.Soundness.{run-grows}
 use Rattle.job.proofs.JobChecked.{kept-sound}
-use Rattle.codec.specs.Field.{Field, Reading}
-use Rattle.codec.specs.Number.{pickBytes}
+use Rattle.codec.specs.Field.{Reading}
 use Rattle.codec.specs.TableField.{tableRecordAt}
 use Rattle.codec.proofs.TableFieldLaws.{record-read}
 use Rattle.codec.proofs.StandsLaws.{AllBytes}
@@ -33,7 +32,7 @@ use Rattle.writers.specs.Calls.{recordRules, tooShort}
 use Rattle.writers.proofs.WriteBack.{write-back}
 use Rattle.reporting.specs.declared.tally.Tally.{Tally}
 use Rattle.text.specs.Text.{decimal, spaced, lineFeed}
-use Rattle.reporting.specs.Lines.{verdictText, recordLine, refusalLine, lastLine, tooLongLine}
+use Rattle.reporting.specs.Lines.{verdictText, recordLine, lastLine, tooLongLine}
 use Rattle.reporting.specs.Report.{inputMost, noTally, counted, recordThen, reportFrom, report}
 use Rattle.job.proofs.DecidedLaws.{decided-table}
 use Rattle.theory.proofs.Answers.{EndedWithout, found-realises, found-accepted, ended-balances, ended-accepted, ended-excludes}
@@ -106,7 +105,7 @@ module _ (s : List ℕ) where
 
   -- or the last line, at the end
   picked : (b : Bool) {at : ℕ} (t : Tally) {lines : List ℕ} → ltb at (length s) ≡ b → (at < length s → RightLines s at t lines)
-      → RightLines s at t (pickBytes b lines (lastLine t))
+      → RightLines s at t (cond b lines (lastLine t))
   picked true {at = at} t e lines = lines (ltb-true at (length s) e)
   picked false {at = at} t e lines = last t (ltb-false at (length s) e)
 
@@ -121,7 +120,7 @@ module _ (s : List ℕ) where
   right-lines : length s ≤ inputMost → RightLines s 0 noTally (report s)
   unfolding report
   right-lines h =
-      subst (λ (b : Bool). RightLines s 0 noTally (pickBytes b tooLongLine (reportFrom (length s) s 0 noTally))) (sym (le-ltb inputMost (length s) h)) (right-from (length s) 0 noTally (omega arith))
+      subst (λ (b : Bool). RightLines s 0 noTally (cond b tooLongLine (reportFrom (length s) s 0 noTally))) (sym (le-ltb inputMost (length s) h)) (right-from (length s) 0 noTally (omega arith))
 
 -- ---- the records that the C interface hands back
 

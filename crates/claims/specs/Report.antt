@@ -8,7 +8,7 @@ use Rattle.types.specs.declared.table.Table.{Table}
 use Rattle.cell.specs.Refusal.{answered}
 use Rattle.job.specs.Machine.{fresh, decided}
 use Rattle.job.specs.Calls.{callBudget, carryOn}
-use Rattle.batch.specs.declared.progress.Step.the-variants.{Done}
+use Rattle.batch.specs.declared.progress.Phase.the-variants.{Done}
 use Rattle.reporting.specs.Lines.{tooLongLine}
 use Rattle.reporting.specs.Report.{inputMost, report}
 use Rattle.batch.specs.Progress.{start, linesFrom, after}
@@ -18,6 +18,6 @@ use Rattle.claims.specs.Jobs.{Taken}
 -- is done; of an input above 65,536 bytes it is one line. The job that it shows of a table is what one carry-on of 100,000 gives
 pub record ReportIsItsLines : Type 0 where
   pub lines : (s : List ℕ) → length s ≤ inputMost → (m : ℕ) → length s + 2 ≤ m → linesFrom m s start ≡ report s
-  pub ends : (s : List ℕ) (m : ℕ) → length s + 2 ≤ m → (after m s start) .step ≡ Done
+  pub ends : (s : List ℕ) (m : ℕ) → length s + 2 ≤ m → (after m s start) .phase ≡ Done
   pub too-long : (s : List ℕ) → inputMost < length s → report s ≡ tooLongLine
   pub decides : (t : Table) → Taken t → carryOn (fresh t) callBudget ≡ answered (decided t)

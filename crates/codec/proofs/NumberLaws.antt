@@ -13,7 +13,7 @@ use Rattle.table.specs.Gate.{weightLimit, within}
 use Rattle.cell.specs.Refusal.{answered}
 use Rattle.machine.proofs.RangeLaws.{within-correct}
 use Rattle.codec.specs.Field.{Field, Reading, field, onward}
-use Rattle.codec.specs.Number.{pickBytes, pickReading, groupBytes, numberBytes, lastGroup, groupsAt, numberAt, signedCode, signedOf}
+use Rattle.codec.specs.Number.{groupBytes, numberBytes, lastGroup, groupsAt, numberAt, signedCode, signedOf}
 use Rattle.codec.proofs.FieldLaws.{onward-answered, checked-onward, checked-answered}
 use Rattle.codec.proofs.StandsLaws.{Stands, AllBytes, stands-head, stands-back, stands-byte, stands-join}
 
@@ -51,7 +51,7 @@ unfolding groupBytes
 groups-length zero x = omega arith
 groups-length (suc groups) x = by (groups-length groups (x / 128)) (ltb x 128)
   where
-    by : length (groupBytes groups (x / 128)) ≤ groups → (t : Bool) → length (pickBytes t (x ∷ []) ((128 + x % 128) ∷ groupBytes groups (x / 128))) ≤ suc groups
+    by : length (groupBytes groups (x / 128)) ≤ groups → (t : Bool) → length (cond t (x ∷ []) ((128 + x % 128) ∷ groupBytes groups (x / 128))) ≤ suc groups
     by h true = omega arith
     by h false = omega arith
 
@@ -60,7 +60,7 @@ pub number-length : (x : ℕ) → (1 ≤ length (numberBytes x)) × (length (num
 unfolding numberBytes groupBytes
 number-length x = (by (ltb x 128), groups-length 3 x)
   where
-    by : (t : Bool) → 1 ≤ length (pickBytes t (x ∷ []) ((128 + x % 128) ∷ groupBytes 2 (x / 128)))
+    by : (t : Bool) → 1 ≤ length (cond t (x ∷ []) ((128 + x % 128) ∷ groupBytes 2 (x / 128)))
     by true = omega arith
     by false = omega arith
 
@@ -127,7 +127,7 @@ data Group (groups : ℕ) (later : Bool) (s : List ℕ) (at : ℕ) (f : Field �
 group-of : (groups : ℕ) (later : Bool) (s : List ℕ) (at : ℕ) (f : Field ℕ) → groupsAt (suc groups) later s at ≡ answered f → (at < length s) × Group groups later s at f
 unfolding groupsAt
 group-of groups later s at f e =
-    let read = checked-onward 1 (ltb (length s) (at + 1)) (pickReading (ltb b 128) (lastGroup later b at) rest) f e in
+    let read = checked-onward 1 (ltb (length s) (at + 1)) (cond (ltb b 128) (lastGroup later b at) rest) f e in
     (omega (arith, ltb-false (length s) (at + 1) (read .0)), by (ltb b 128) refl (read .1))
   where
     b : ℕ
@@ -139,7 +139,7 @@ group-of groups later s at f e =
     rest : Reading ℕ
     rest = onward (groupsAt groups true s (at + 1)) joined
 
-    by : (t : Bool) → ltb b 128 ≡ t → pickReading t (lastGroup later b at) rest ≡ answered f → Group groups later s at f
+    by : (t : Bool) → ltb b 128 ≡ t → cond t (lastGroup later b at) rest ≡ answered f → Group groups later s at f
     by true c d = let kept = checked-answered 4 (later && eqb b 0) (field b (at + 1)) f d in last (ltb-true b 128 c) (kept .0) (kept .1)
     by false c d = let (h, first, same) = onward-answered (groupsAt groups true s (at + 1)) joined f d in more (ltb-false b 128 c) h first (cc)
 

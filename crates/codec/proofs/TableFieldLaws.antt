@@ -12,7 +12,7 @@ use borrow.Author.Tests.{ltb-false, le-ltb, not-false}
 use Rattle.numbers.specs.Tests.{allAtMost}
 use Rattle.numbers.proofs.TestLaws.{or-false-right, all-at-most-at}
 use Rattle.types.specs.declared.table.Table.{Table}
-use Rattle.table.specs.Table.{inputLimit, rowsOf, byteCount, spareSet}
+use Rattle.table.specs.Table.{inputLimit, rowsOf, bitBytes, byteCount, padded, spareSet}
 use Rattle.table.proofs.TableLaws.{bytes-le}
 use Rattle.cell.specs.Refusal.{rule, answered, checked, NoneBroken, none, also}
 use Rattle.cell.specs.Calls.{tooManyInputs, spareBits, tableRules}
@@ -20,7 +20,7 @@ use Rattle.cell.proofs.TableChecked.{kept-inputs}
 use Rattle.codec.specs.Field.{Field, Reading, field, onward}
 use Rattle.codec.specs.Number.{numberBytes, numberAt}
 use Rattle.codec.specs.Kind.{Family, tablesAlone, kindAt}
-use Rattle.codec.specs.TableField.{tableBytes, inputsAt, bitBytes, padded, bitsAt, tableOf, tableAt, tableRecordAt}
+use Rattle.codec.specs.TableField.{tableBytes, inputsAt, bitsAt, tableOf, tableAt, tableRecordAt}
 use Rattle.codec.proofs.FieldLaws.{onward-answered, checked-answered}
 use Rattle.codec.proofs.StandsLaws.{Stands, AllBytes, stands-front, stands-back, stands-join, stands-within}
 use Rattle.codec.proofs.NumberLaws.{number-read, number-written, number-next}
@@ -50,7 +50,7 @@ module _ (t : Table) (kept : NoneBroken (tableRules t [])) (long : length (t .by
   spare : NoneBroken (tableRules t []) → spareSet (t .n) (t .bytes) ≡ false
   spare (also few (also e none)) = e
 
-  own-padded : tableOf (t .n) (padded (ownBytes t)) ≡ t
+  own-padded : tableOf (t .n) (padded 32 0 (ownBytes t)) ≡ t
   own-padded = λ i. record { n = t .n; bytes = (ap (λ (l : List ℕ). ownBytes t ++ l) same ∙ take-append-drop (byteCount (t .n)) (t .bytes)) i }
     where
       past : List ℕ
@@ -68,7 +68,7 @@ module _ (t : Table) (kept : NoneBroken (tableRules t [])) (long : length (t .by
       same : zeros ≡ past
       same = ext-getD 0 zeros past same-length (λ i h. omega (arith, spare-past (t .n) (t .bytes) (spare kept) i, zero-at i h))
 
-  bits-read : (s : List ℕ) (at : ℕ) → at ≤ length s → Stands s at (ownBytes t) → bitsAt (rowsOf (t .n)) s at ≡ answered (field (padded (ownBytes t)) (at + byteCount (t .n)))
+  bits-read : (s : List ℕ) (at : ℕ) → at ≤ length s → Stands s at (ownBytes t) → bitsAt (rowsOf (t .n)) s at ≡ answered (field (padded 32 0 (ownBytes t)) (at + byteCount (t .n)))
   bits-read s at h (rest, e) =
       let found : take (byteCount (t .n)) (drop at s) ≡ ownBytes t = ap (take (byteCount (t .n))) e ∙ take-at (ownBytes t) rest (byteCount (t .n)) own-length in
       let early = le-ltb (length s) (at + byteCount (t .n)) (omega (arith, stands-within s at (ownBytes t) h (rest, e), own-length)) in
@@ -99,9 +99,9 @@ inputs-written s at f e = by (onward-answered (numberAt s at) taken f e)
     by (n, first, rest) = let (few, same) = checked-answered 2 (ltb inputLimit (n .value)) n f rest in rw (← same) (first, few)
 
 bits-written : (rows : ℕ) (s : List ℕ) (at : ℕ) (f : Field (List ℕ)) → bitsAt rows s at ≡ answered f
-    → (at + bitBytes rows ≤ length s) × (f .value ≡ padded (take (bitBytes rows) (drop at s))) × (f .next ≡ at + bitBytes rows)
+    → (at + bitBytes rows ≤ length s) × (f .value ≡ padded 32 0 (take (bitBytes rows) (drop at s))) × (f .next ≡ at + bitBytes rows)
 bits-written rows s at f e =
-    let bits = field (padded (take (bitBytes rows) (drop at s))) (at + bitBytes rows) in
+    let bits = field (padded 32 0 (take (bitBytes rows) (drop at s))) (at + bitBytes rows) in
     let (early, same) = checked-answered 1 (ltb (length s) (at + bitBytes rows)) bits f e in
     rw (← same) (ltb-false (length s) (at + bitBytes rows) early, refl, refl)
 
@@ -112,7 +112,7 @@ record TableParts (s : List ℕ) (at : ℕ) (t : Table) (next : ℕ) : Type 0 wh
   few : ltb inputLimit (t .n) ≡ false
   inside : middle + byteCount (t .n) ≤ length s
   spare : spareSet (t .n) (t .bytes) ≡ false
-  held : t .bytes ≡ padded (take (byteCount (t .n)) (drop middle s))
+  held : t .bytes ≡ padded 32 0 (take (byteCount (t .n)) (drop middle s))
   end : next ≡ middle + byteCount (t .n)
 
 table-parts : (s : List ℕ) (at : ℕ) (f : Field Table) → tableAt s at ≡ answered f → TableParts s at (f .value) (f .next)

@@ -6,7 +6,7 @@ use Prim.Native.Nat.{ℕ, _+_}
 use lib.Dec.{eqb}
 use lib.ListN.{getD}
 use Rattle.cell.specs.Refusal.{Answered, answered, refused, andThen, checked}
-use Rattle.codec.specs.Field.{Reading, field, endsEarly}
+use Rattle.codec.specs.Field.{Reading, field, onward, endsEarly}
 
 -- a record's family, by what follows its kind byte: a table; a table with a gate; with a witness; with the numbers of an open job
 pub data Family : Type 0 where
@@ -37,3 +37,7 @@ familyIn (f ∷ fs) kind = cond (eqb kind (kindOf f)) (answered f) (familyIn fs 
 -- a kind byte. 1: bytes end early; then 5
 abbrev pub kindAt : List Family → List ℕ → ℕ → Reading Family
 kindAt takes s at = checked (endsEarly s at 1 ∷ []) (andThen (familyIn takes (getD s at 0)) (λ f. answered (field f (at + 1))))
+
+-- a record from a position on, of the families that a caller takes: its kind byte, then what follows it, by the family
+abbrev pub recordWith : {A : Type 0} → List Family → (Family → List ℕ → ℕ → Reading A) → List ℕ → ℕ → Reading A
+recordWith takes body s at = onward (kindAt takes s at) (λ f p. body f s p)

@@ -12,22 +12,14 @@ use Rattle.codec.specs.Field.{Reading, field, onward, endsEarly}
 abbrev pub groupLimit : ℕ
 groupLimit = 3
 
-abbrev pub pickBytes : Bool → List ℕ → List ℕ → List ℕ
-pickBytes true a b = a
-pickBytes false a b = b
-
 -- a number in groups of seven bits, lowest first, bit 7 set on all but the last; shortest form
 unfoldable pub groupBytes : (groups x : ℕ) → List ℕ
 groupBytes zero x = []
-groupBytes (suc groups) x = let higher = groupBytes groups (x / 128) in pickBytes (ltb x 128) (x ∷ []) ((128 + x % 128) ∷ higher)
+groupBytes (suc groups) x = let higher = groupBytes groups (x / 128) in cond (ltb x 128) (x ∷ []) ((128 + x % 128) ∷ higher)
 
 unfoldable pub numberBytes : ℕ → List ℕ
 unfolding groupBytes
 numberBytes x = groupBytes groupLimit x
-
-abbrev pub pickReading : {A : Type 0} → Bool → Reading A → Reading A → Reading A
-pickReading true a b = a
-pickReading false a b = b
 
 -- the last group. 4: it is 0 after another
 abbrev pub lastGroup : Bool → ℕ → ℕ → Reading ℕ
@@ -39,7 +31,7 @@ groupsAt zero later s at = refused 4
 groupsAt (suc groups) later s at =
     let b = getD s at 0 in
     let more = onward (groupsAt groups true s (at + 1)) (λ higher next. answered (field (b - 128 + 128 * higher) next)) in
-    checked (endsEarly s at 1 ∷ []) (pickReading (ltb b 128) (lastGroup later b at) more)
+    checked (endsEarly s at 1 ∷ []) (cond (ltb b 128) (lastGroup later b at) more)
 
 unfoldable pub numberAt : List ℕ → ℕ → Reading ℕ
 unfolding groupsAt

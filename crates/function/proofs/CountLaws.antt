@@ -1,13 +1,17 @@
--- Laws of counts: a count with 1 added, a pair of them, and no counts. Assumes nothing.
-use mathlib.Core.Path.{_≡_, refl, _∙_}
-use mathlib.Core.Logic.{_≢_}
+-- Laws of counts: a count with 1 added, a pair of them, no counts, and the test that two arrays have the same. Assumes nothing.
+use mathlib.Core.Path.{_≡_, refl, sym, _∙_, ap}
+use mathlib.Core.Logic.{_≢_, _↔_}
+use mathlib.Core.Bool.{true}
 use mathlib.Core.List.{List, [], _∷_}
 use mathlib.Core.Option.{Option, some, none}
 use Prim.Native.Nat.{ℕ, zero, suc, _+_, _^_, _≤_, _<_}
 use native.Mathlib.Omega.{arith}
+use lib.Dec.{eqb}
 use lib.ListN.{length, getD, replicate, length-set}
-use lib.Seq.{getD-set-same, getD-set-other}
-use Rattle.function.specs.Witness.{oneMore, zeros}
+use lib.Seq.{ext-getD, getD-set-same, getD-set-other}
+use borrow.Author.Tests.{eqb-true, eq-eqb}
+use Rattle.numbers.proofs.TestLaws.{all-below-at, all-below-from}
+use Rattle.function.specs.Witness.{oneMore, zeros, sameCounts}
 use Rattle.function.specs.Binate.{pairMore}
 
 -- ---- a count more
@@ -54,3 +58,13 @@ zeros-of (suc n) (suc q) = zeros-of n q
 -- each count of `zeros` is 0
 pub getD-zeros : (q : ℕ) → getD zeros q 0 ≡ 0
 getD-zeros q = zeros-of 256 q
+
+-- ---- the same counts
+
+-- lists of 256 counts are equal exactly if they agree at each place
+pub same-counts-correct : (xs ys : List ℕ) → length xs ≡ 256 → length ys ≡ 256 → sameCounts xs ys ≡ true ↔ xs ≡ ys
+unfolding sameCounts
+same-counts-correct xs ys n m = (
+  λ e. ext-getD 0 xs ys (n ∙ sym m) (λ r h. eqb-true _ _ (all-below-at 256 (λ q. eqb (getD xs q 0) (getD ys q 0)) e r (omega arith))),
+  λ e. all-below-from 256 (λ q. eqb (getD xs q 0) (getD ys q 0)) (λ r h. eq-eqb _ _ (ap (λ (l : List ℕ). getD l r 0) e)),
+)

@@ -10,6 +10,8 @@ pub mod WitnessLaws
 pub mod Summability
 -- the rows in which an input turns the value
 pub mod TurnLaws
+-- the range of a vector, and how a correction widens it
+pub mod RangeLaws
 -- equal vectors, and what a correction adds at each place
 pub mod VectorLaws
 -- the test that a row fails, and the lowest failing row

@@ -3,9 +3,9 @@
 use mathlib.Core.Bool.{Bool, true, false, _&&_}
 use mathlib.Core.List.{List}
 use mathlib.Core.Option.{Option, some, none}
-use Prim.Native.Nat.{ℕ, suc, _+_, _^_}
+use Prim.Native.Nat.{ℕ, suc}
 use Rattle.numbers.specs.Tests.{firstFrom, isSome}
-use Rattle.function.specs.Function.{Function}
+use Rattle.function.specs.Function.{Function, raisedIn}
 use Rattle.function.specs.Witness.{oneMore, zeros}
 use Rattle.function.specs.Turns.{firstTurn}
 
@@ -20,7 +20,7 @@ binatePlace f = firstFrom (binateAt f) (f .places) 0
 -- a row of a pair and its partner with the input raised (of a table: true) have one more count
 abbrev pub pairMore : (base place : ℕ) → Option ℕ → List ℕ → List ℕ
 pairMore base place none counts = counts
-pairMore base place (some r) counts = oneMore (r + base ^ place) (oneMore r counts)
+pairMore base place (some r) counts = oneMore (raisedIn base place r) (oneMore r counts)
 
 -- the counts of a binate input: 1 at the lowest row where the input rises, at the lowest where it falls, and at their partners. The
 -- four rows of a table differ

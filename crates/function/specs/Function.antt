@@ -24,9 +24,12 @@ levels f r = level (suc (f .top)) r
 abbrev pub rows : Function → ℕ
 rows f = suc (f .top) ^ f .places
 
--- the row with the place's input one level higher; of a table's row that lacks the input, the row with it
+-- the row with the place's input one level higher, where rows are numbers in a base; of a table's row that lacks the input, the row with it
+abbrev pub raisedIn : (base place r : ℕ) → ℕ
+raisedIn base place r = r + base ^ place
+
 abbrev pub raised : Function → ℕ → ℕ → ℕ
-raised f place r = r + suc (f .top) ^ place
+raised f = raisedIn (suc (f .top))
 
 -- what the code's arrays hold: eight weights, and 256 counts
 pub record Fits (f : Function) : Type 0 where

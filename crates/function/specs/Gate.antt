@@ -1,10 +1,13 @@
--- A gate: its distance and its value on a row, when it realises a function, and the test of it (document 01, "Table, gate, witness"). Weights
--- and T are integers of any size. `realises-correct` of proofs/ joins the two. Definitions only. Assumes nothing.
+-- A gate: its distance and its value on a row, when it realises a function, the test of it, and the range of its numbers (document 01,
+-- "Table, gate, witness"). Weights and T are integers of any size. `realises-correct` of proofs/ joins the two. Definitions only. Assumes
+-- nothing.
 use mathlib.Core.Path.{_≡_}
-use mathlib.Core.Bool.{Bool, true, not, _||_}
+use mathlib.Core.Bool.{Bool, true, not, cond, _&&_, _||_}
 use mathlib.Core.List.{List}
 use Prim.Native.Nat.{ℕ, _<_}
-use lib.IntN.{ℤ, pos, _-ℤ_}
+use lib.Dec.{ltb}
+use lib.ListN.{getD}
+use lib.IntN.{ℤ, pos, negℤ, _-ℤ_}
 use lib.Signed.{leZ}
 use Rattle.numbers.specs.Sum.{weightedSum}
 use Rattle.numbers.specs.Tests.{sameBool, allBelow}
@@ -28,3 +31,22 @@ Realises ws th f = (r : ℕ) → r < rows f → f .cared r ≡ true → gateTrue
 unfoldable pub realises : List ℤ → ℤ → Function → Bool
 unfolding allBelow distance
 realises ws th f = allBelow (rows f) (λ r. not (f .cared r) || sameBool (gateTrue ws th (levels f r)) (f .value r))
+
+-- ---- the range of its numbers
+
+-- weights and T lie within ±1,000,000
+abbrev pub weightLimit : ℕ
+weightLimit = 1000000
+
+-- z lies within ±limit
+abbrev pub within : ℕ → ℤ → Bool
+within limit z = leZ (negℤ (pos limit)) z && leZ z (pos limit)
+
+-- the most that a place may hold where n places have a limit: places past n hold 0
+abbrev pub placeLimit : (limit n place : ℕ) → ℕ
+placeLimit limit n place = cond (ltb place n) limit 0
+
+-- the weights of n inputs and T lie within ±limit, and the places past n hold 0
+unfoldable pub inRange : (limit n : ℕ) → List ℤ → ℤ → Bool
+unfolding allBelow
+inRange limit n ws th = within limit th && allBelow 8 (λ place. within (placeLimit limit n place) (getD ws place (pos 0)))

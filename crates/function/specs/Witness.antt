@@ -54,3 +54,7 @@ zeros = replicate 256 0
 -- an array with 1 added to the count of row r
 abbrev pub oneMore : ℕ → List ℕ → List ℕ
 oneMore r counts = set counts r (countOf counts r + 1)
+
+-- the test that two arrays have the same counts
+unfoldable pub sameCounts : List ℕ → List ℕ → Bool
+sameCounts xs ys = allBelow 256 (λ r. eqb (countOf xs r) (countOf ys r))

@@ -11,17 +11,17 @@ use Rattle.cell.specs.Answers.{idle}
 use Rattle.codec.specs.Written.{writtenAt}
 use Rattle.results.specs.Result.{fitted, Returned}
 use Rattle.results.proofs.ResultLaws.{returned-bytes}
-use Rattle.inputs.specs.Inputs.{kindByte, kindBytes, word, chowBytes}
+use Rattle.inputs.specs.Inputs.{inputByte, inputBytes, word, chowBytes}
 
 -- ---- kinds
 
 -- a byte for each place
-pub kind-count : (places : List Place) → length (kindBytes places) ≡ length places
+pub kind-count : (places : List Place) → length (inputBytes places) ≡ length places
 kind-count [] = refl
 kind-count (p ∷ places) = ap suc (kind-count places)
 
 -- the byte of a place; past the last it is that of an idle input
-pub kind-at : (places : List Place) (i : ℕ) → getD (kindBytes places) i 0 ≡ kindByte (getD places i idle .kind)
+pub kind-at : (places : List Place) (i : ℕ) → getD (inputBytes places) i 0 ≡ inputByte (getD places i idle .kind)
 kind-at [] i = refl
 kind-at (p ∷ places) zero = refl
 kind-at (p ∷ places) (suc i) = kind-at places i

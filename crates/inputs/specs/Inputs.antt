@@ -13,15 +13,15 @@ use Rattle.inputs.specs.declared.asked.Asked.{Asked}
 use Rattle.inputs.specs.declared.asked.Asked.the-variants as Asked′
 
 -- the byte of an input's kind
-abbrev pub kindByte : InputKind → ℕ
-kindByte Idle = 0
-kindByte Rising = 1
-kindByte Falling = 2
-kindByte Binate = 3
+abbrev pub inputByte : InputKind → ℕ
+inputByte Idle = 0
+inputByte Rising = 1
+inputByte Falling = 2
+inputByte Binate = 3
 
 -- a byte for each place
-abbrev pub kindBytes : List Place → List ℕ
-kindBytes places = map (λ (p : Place). kindByte (p .kind)) places
+abbrev pub inputBytes : List Place → List ℕ
+inputBytes places = map (λ (p : Place). inputByte (p .kind)) places
 
 -- a signed number as two bytes hold it: a negative z as 65536 + z
 abbrev pub word : ℤ → ℕ
@@ -35,5 +35,5 @@ chowBytes (q ∷ qs) = word q % 256 ∷ word q / 256 ∷ chowBytes qs
 
 -- what is asked of a table
 abbrev pub askedBytes : Asked → Table → List ℕ
-askedBytes Asked′.Kinds t = kindBytes (kindsOf t)
+askedBytes Asked′.Kinds t = inputBytes (kindsOf t)
 askedBytes Asked′.Chow t = chowBytes (chowOf t)

@@ -7,11 +7,11 @@ ghost use mathlib.Core.Path.{_≡_};
 ghost use Prim.Native.Nat.{_<_};
 ghost use lib.ListN.{length, getD};
 ghost use Rattle.results.specs.Result.{fitted, Returned};
-ghost use Rattle.inputs.specs.Inputs.{kindByte, kindBytes, word, chowBytes};
+ghost use Rattle.inputs.specs.Inputs.{inputByte, inputBytes, word, chowBytes};
 
 // Returns the byte of a kind: 0 idle, 1 rising, 2 falling, 3 binate.
-fn kind_byte(kind: InputKind) -> u8
-    ensures { λ r. ⌜ r ≡ kindByte kind ⌝ }
+fn input_byte(kind: InputKind) -> u8
+    ensures { λ r. ⌜ r ≡ inputByte kind ⌝ }
 {
     match kind {
         InputKind::Idle => 0,
@@ -23,7 +23,7 @@ fn kind_byte(kind: InputKind) -> u8
 
 // Writes the bytes of eight kinds. Returns 8, or the refusal: 12.
 pub fn put_kinds(places: [Place; 8], out: &mut [u8]) -> i64
-    ensures { λ r. ⌜ Returned (fitted (length (now (out .entry))) (kindBytes places)) (now (out .entry)) r (now (out .exit)) ⌝ }
+    ensures { λ r. ⌜ Returned (fitted (length (now (out .entry))) (inputBytes places)) (now (out .entry)) r (now (out .exit)) ⌝ }
 {
     if out.len() < 8 {
         return refusal(12);
@@ -32,7 +32,7 @@ pub fn put_kinds(places: [Place; 8], out: &mut [u8]) -> i64
     while place < 8 {
         let here = places[place];
         let kind = here.kind;
-        out[place] = kind_byte(kind);
+        out[place] = input_byte(kind);
         place = place + 1;
     }
     8

@@ -1,18 +1,29 @@
 -- A sound job: the computed test with its meaning, and what code takes from it, by the laws of its state. Assumes nothing.
-use mathlib.Core.Path.{_≡_}
+use mathlib.Core.Path.{_≡_, refl}
 use mathlib.Core.Logic.{_≢_, _↔_}
 use mathlib.Core.Bool.{true}
 use Prim.Native.Nat.{ℕ, _≤_}
 use lib.ListN.{getD}
+use Rattle.types.specs.declared.table.Table.{Table}
+use Rattle.types.specs.declared.state.State.{State}
 use Rattle.types.specs.declared.stage.Stage.{Stage}
 use Rattle.types.specs.declared.stage.Stage.the-variants.{Binate}
 use Rattle.table.specs.Table.{rows, functionOf}
-use Rattle.state.specs.Sound.{SoundIn}
+use Rattle.state.specs.Sound as Sound′
+use Rattle.state.specs.Sound.{Ranged, SoundIn}
 use Rattle.state.proofs.SoundBounds as state
 use Rattle.state.proofs.SoundLaws as test
 use Rattle.job.specs.declared.job.Job.{Job}
 use Rattle.job.specs.Sound.{Sound, isSound}
-pub use Rattle.state.proofs.SoundBounds.{in-range-search, sound-current, sound-copied, table-current, table-copied}
+pub use Rattle.state.proofs.SoundBounds.{in-range-search, sound-current, sound-copied}
+
+-- on a table v and s lie within ±K
+module _ (t : Table) {x : State} (s : Sound′.Sound (functionOf t) x) where
+  pub table-current : Ranged (x .k) (t .n) (x .v)
+  table-current = state.unit-current refl s
+
+  pub table-copied : Ranged (x .k) (t .n) (x .s)
+  table-copied = state.unit-copied refl s
 
 -- the test of a sound job says so
 pub is-sound-correct : (j : Job) → isSound j ≡ true ↔ Sound j

@@ -8,6 +8,7 @@ use lib.ListN.{replicate}
 use lib.IntN.{pos}
 use Rattle.types.specs.declared.table.Table.{Table}
 use Rattle.types.specs.declared.gate.Gate.{Gate}
+use Rattle.types.specs.declared.vector.Vector.{Vector}
 use Rattle.types.specs.declared.witness.Witness.{Witness}
 use Rattle.cell.specs.Refusal.{Rule, rule, Answered, answered, refused, checked}
 use Rattle.cell.specs.Calls.{tableRules}
@@ -79,9 +80,13 @@ carried j (refused n) = record { status = Status′.Refused n; job = j; made = 0
 
 -- ---- what an ended job has
 
--- the gate of a found job: weights ai, and T = b
+-- the gate of n inputs that a vector is: weights ai, and T = b
+abbrev pub vectorGate : ℕ → Vector → Gate
+vectorGate n v = record { n = n; weights = v .a; threshold = v .b }
+
+-- the gate of a found job
 abbrev pub gateOf : Job → Gate
-gateOf j = record { n = j .table .n; weights = j .state .v .a; threshold = j .state .v .b }
+gateOf j = vectorGate (j .table .n) (j .state .v)
 
 -- the witness of a looped or binate job: its counts
 abbrev pub witnessOf : Job → Witness

@@ -1,13 +1,14 @@
 // Runs the calls on a job over jobs made by hand: at the edge of each refusal and of each line of "A sound job", with two refusals of
-// an order at once, and with extreme contents. Prints a line for each case, with what every call says.
+// an order at once, and with extreme contents. The cases are the lines of standard input; a line that starts with # says what those after
+// it are for. Prints a line for each case, with what every call says.
 mod calls;
-mod edges;
 mod print;
-mod soundness;
 
+use libc::STDIN_FILENO;
 use papers::line::line_end;
 use papers::line::table_of;
 use papers::show;
+use papers::text::first;
 use papers::text::word;
 use testing::make;
 
@@ -21,8 +22,11 @@ fn run(lines: &[u8]) {
     }
 }
 
-// Prints the line, then the fresh job of its table or what the calls say of its job.
+// Prints the line of a case, then the fresh job of its table or what the calls say of its job.
 fn run_line(line: &[u8]) {
+    if first(line) == b'#' {
+        return;
+    }
     show::word(line);
     if word(line, 3).len() == 0 {
         calls::on_table(table_of(line));
@@ -33,17 +37,7 @@ fn run_line(line: &[u8]) {
 }
 
 fn main() {
-    run(&edges::FRESH);
-    run(&edges::BUDGETS);
-    run(&edges::ENDED);
-    run(&edges::ORDERS);
-    run(&edges::ROWS);
-    run(&edges::RUNS);
-    run(&soundness::LIMITS);
-    run(&soundness::PLACES);
-    run(&soundness::MARKS);
-    run(&soundness::SUMS);
-    run(&soundness::STAGES);
-    run(&soundness::BINATE);
-    run(&soundness::EXTREMES);
+    let mut lines = [0u8; 32768];
+    let length = io::read_full(STDIN_FILENO, &mut lines);
+    run(&lines[..length]);
 }

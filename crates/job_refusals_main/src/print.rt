@@ -3,6 +3,7 @@ use cell::refusal::Status;
 use job::job::Job;
 use papers::show;
 use testing::compare::letter;
+use types::stage::Stage;
 use types::vector::Vector;
 use view::shown::Verdict;
 
@@ -48,21 +49,35 @@ pub fn kept(name: &[u8], is_kept: bool) {
 // Writes the numbers and the stage of a job.
 pub fn job(job: Job) {
     let state = job.state;
-    show::word(b" K");
-    show::number(state.k as u64);
-    show::word(b" M");
-    show::number(state.mark as u64);
-    let n = job.table.n as usize;
-    show::word(b" v");
-    vector(state.v, n);
-    show::word(b" s");
-    vector(state.s, n);
+    numbers(state.k, state.mark);
+    vectors(state.v, state.s, job.table.n as usize);
     show::word(b" counts");
     let counts = state.counts;
     pairs(counts);
     let stage = state.stage;
+    stage_of(stage);
+}
+
+// Writes K and M.
+fn numbers(k: u32, mark: u32) {
+    show::word(b" K");
+    show::number(k as u64);
+    show::word(b" M");
+    show::number(mark as u64);
+}
+
+// Writes a stage's letter.
+fn stage_of(stage: Stage) {
     show::word(b" stage ");
     show::word(&[letter(stage)]);
+}
+
+// Writes v and s.
+fn vectors(v: Vector, s: Vector, n: usize) {
+    show::word(b" v");
+    vector(v, n);
+    show::word(b" s");
+    vector(s, n);
 }
 
 // Writes the first n weights and b.

@@ -9,7 +9,7 @@ ghost use Rattle.table.specs.Gate.{weightLimit, inRange};
 ghost use Rattle.lanes.specs.Sums.{magnitude};
 
 // Returns the absolute value.
-fn size_of(x: i32) -> u32
+fn absolute(x: i32) -> u32
     requires { ⌜ natAbs x ≤ weightLimit ⌝ }
     ensures { λ r. ⌜ r ≡ natAbs x ⌝ }
 {
@@ -22,10 +22,10 @@ pub fn is_small(v: Vector) -> bool
     ensures { λ r. ⌜ r ≡ leb (magnitude v) 14000 ⌝ }
 {
     let a = v.a;
-    let mut sum = size_of(v.b);
+    let mut sum = absolute(v.b);
     let mut place: usize = 0;
     while place < 8 {
-        sum = sum + size_of(a[place]);
+        sum = sum + absolute(a[place]);
         place = place + 1;
     }
     sum <= 14000

@@ -1,5 +1,6 @@
 // One call of a list, and what the calls have come to.
 use cell::refusal::Status;
+use job::job::Carried;
 use job::job::Job;
 use receiving::record::read;
 use testing::compare::same_job;
@@ -50,30 +51,38 @@ fn number_of(status: Status) -> u8 {
 // Whether a read record is a job.
 fn is_job(kind: Kind) -> bool {
     match kind {
-        Kind::Table => false,
-        Kind::Gate => false,
-        Kind::Witness => false,
         Kind::Job => true,
-        Kind::Refused(_) => false,
+        _ => false,
     }
 }
 
-// Carries the job on. The answer is right if K has grown by the corrections reported, and if a refusal leaves the job as it was.
+// Whether K has grown by the corrections that a carry-on reported, and a refusal left the job as it was.
+fn is_right(before: Job, carried: Carried, number: u8) -> bool {
+    let job = carried.job;
+    let has_grown = before.state.k as u64 + carried.made as u64 == job.state.k as u64;
+    has_grown && (number == 0 || same_job(before, job))
+}
+
+// Adds the corrections of a carry-on to the sums, and its budget where it was accepted.
+fn with_sums(calls: Calls, budget: u32, made: u32, number: u8) -> Calls {
+    let mut next = calls;
+    next.made = std::num::wrapping_add_u64(next.made, made as u64);
+    if number == 0 {
+        next.budgets = std::num::wrapping_add_u64(next.budgets, budget as u64);
+    }
+    next
+}
+
+// Carries the job on.
 pub fn carry_on(calls: Calls, budget: u32) -> Calls {
     let before = calls.job;
     let carried = before.carry_on(budget);
     let status = carried.status;
     let number = number_of(status);
+    let mut next = with_sums(calls, budget, carried.made, number);
     let job = carried.job;
-    let has_grown = before.state.k as u64 + carried.made as u64 == job.state.k as u64;
-    let is_right = has_grown && (number == 0 || same_job(before, job));
-    let mut next = calls;
     next.job = job;
-    next.made = std::num::wrapping_add_u64(next.made, carried.made as u64);
-    if number == 0 {
-        next.budgets = std::num::wrapping_add_u64(next.budgets, budget as u64);
-    }
-    next.carried = tally::count(next.carried, number, is_right);
+    next.carried = tally::count(next.carried, number, is_right(before, carried, number));
     next
 }
 

@@ -1,5 +1,4 @@
-// A list of calls on one job. A line is in the form that `testing::make` reads: the letter N stands for the fresh job of its table,
-// the
+// A list of calls on one job. A line is in the form that `testing::make` reads: the letter N stands for the fresh job of its table, the
 // row's place has the most of a buffer's length, and the budget's place the most of an ordinary budget.
 use crate::calls;
 use crate::calls::Calls;
@@ -12,6 +11,7 @@ use testing::compare::letter;
 use testing::compare::same_job;
 use testing::make;
 use testing::tally;
+use types::stage::Stage;
 
 // How many calls a list has.
 const CALLS: u32 = 300;
@@ -90,8 +90,23 @@ fn unbroken(job: Job, budgets: u64) -> Job {
     last.job
 }
 
-// Prints the list's name, the numbers that its calls gave, the sums of accepted budgets and of corrections, K, the stage, and whether
-// the job is that of an unbroken run.
+// Prints the sums of accepted budgets and of corrections, and K.
+fn show_sums(budgets: u64, made: u64, k: u32) {
+    show::word(b" budgets");
+    show::number(budgets);
+    show::word(b" made");
+    show::number(made);
+    show::word(b" K");
+    show::number(k as u64);
+}
+
+// Prints a stage.
+fn show_stage(stage: Stage) {
+    show::word(b" stage ");
+    show::word(&[letter(stage)]);
+}
+
+// Prints the list's name, the numbers that its calls gave, the sums, K, the stage, and whether the job is that of an unbroken run.
 pub fn run(line: &[u8]) {
     let first_job = start(line);
     let calls = calls_on(first_job, line);
@@ -101,14 +116,8 @@ pub fn run(line: &[u8]) {
     show::word(word(line, 0));
     tally::print(b" carried", calls.carried);
     tally::print(b" saved", calls.saved);
-    show::word(b" budgets");
-    show::number(calls.budgets);
-    show::word(b" made");
-    show::number(calls.made);
-    show::word(b" K");
-    show::number(state.k as u64);
-    show::word(b" stage ");
-    show::word(&[letter(stage)]);
+    show_sums(calls.budgets, calls.made, state.k);
+    show_stage(stage);
     show::same(same_job(job, unbroken(first_job, calls.budgets)));
     show::word(b"\n");
 }

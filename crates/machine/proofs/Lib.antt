@@ -1,5 +1,3 @@
--- the highest power of two: what it is, and how it goes on from a number to the next
-pub mod HighestLaws
 -- the range of a vector, and how a correction widens it
 pub mod RangeLaws
 -- the distance of a partner and of row 0, and the size of a distance

@@ -19,7 +19,7 @@ use Rattle.numbers.specs.Tabulate.{tabulate, Holds}
 use Rattle.numbers.proofs.FirstLaws.{IsFirst, first-some, first-none}
 use Rattle.numbers.proofs.TabulateLaws.{getD-tabulate}
 use Rattle.types.specs.declared.table.Table.{Table}
-use Rattle.table.specs.declared.inputs.Lowest.the-variants.{Row, Nowhere}
+use Rattle.table.specs.declared.inputs.Lowest.the-variants.{At, Nowhere}
 use Rattle.table.specs.Table.{rows, value, functionOf}
 use Rattle.function.specs.Gate.{distance}
 use Rattle.table.specs.Inputs.{lowestOf}
@@ -130,7 +130,7 @@ module _ (ws : List ℤ) (th : ℤ) (values : List Bool) (place : ℕ) (distance
         by (no low) = passed .none-fails r (omega arith) (omega (arith, low))
 
     -- a row that is found in the block is the lowest that fails
-    pub block-row : (q : ℕ) → lowestOf (blockSearch values ws place distances) ≡ Row q → IsFirst (failsAt values (rowDistance ws th)) (2 ^ suc place) 0 q
+    pub block-row : (q : ℕ) → lowestOf (blockSearch values ws place distances) ≡ At q → IsFirst (failsAt values (rowDistance ws th)) (2 ^ suc place) 0 q
     block-row q e =
         let f = first-some (failsAt values (blockDistance ws place distances)) (2 ^ place) (2 ^ place) q (lowest-some _ q e) in
         record {
@@ -161,7 +161,7 @@ module _ (t : Table) (v : Vector) (values : List Bool) (small : t .n ≤ 8) (rea
       ap (λ (y : Bool). ltZ (margin y (distance (v .a) (v .b) (level 2 r))) (pos 1)) is
 
   -- the lowest of the rows below m that fails is what is found
-  pub scan-row : (m q : ℕ) → m ≤ rows t → IsFirst (failsAt values (rowDistance (v .a) (v .b))) m 0 q → Row q ≡ lowestOf (failing (functionOf t) v)
+  pub scan-row : (m q : ℕ) → m ≤ rows t → IsFirst (failsAt values (rowDistance (v .a) (v .b))) m 0 q → At q ≡ lowestOf (failing (functionOf t) v)
   scan-row m q h f =
       sym
       (ap lowestOf

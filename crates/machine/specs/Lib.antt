@@ -1,4 +1,2 @@
--- the highest power of two
-pub mod Power
 -- the lists in which the search for the lowest failing row works
 pub mod Scan

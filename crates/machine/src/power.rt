@@ -1,6 +1,6 @@
 // The highest power of two.
 ghost use mathlib.Core.Path.{_≡_};
-ghost use Rattle.machine.specs.Power.{highest};
+ghost use Rattle.numbers.specs.Power.{highest};
 
 // Returns the highest power of two not above k, from the leading zeros of k; 0 for 0.
 pub fn top_power(k: u32) -> u32

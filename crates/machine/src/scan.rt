@@ -76,7 +76,7 @@ fn search_block(distances: &mut [i32], values: &[bool; 256], half: usize, weight
         let distance = distances[at] + weight;
         distances[row] = distance;
         if fails_by(values[row], distance as i64) {
-            return Lowest::Row(row);
+            return Lowest::At(row);
         }
         at = at + 1;
     }
@@ -95,15 +95,15 @@ pub fn first_failing(
 {
     let first = 0 - v.b;
     if fails_by(values[0], first as i64) {
-        return Lowest::Row(0);
+        return Lowest::At(0);
     }
     distances[0] = first;
     let n = table.n as usize;
     let mut place: usize = 0;
     while place < n {
         let block = search_block(distances, values, 1usize << place, v.a[place]);
-        if let Lowest::Row(row) = block {
-            return Lowest::Row(row);
+        if let Lowest::At(row) = block {
+            return Lowest::At(row);
         }
         place = place + 1;
     }

@@ -5,7 +5,6 @@ use text::field::put_signed;
 use types::gate::Gate;
 ghost use mathlib.Core.Path.{_≡_};
 ghost use Prim.Native.Nat.{_+_, _≤_};
-ghost use lib.ListN.{length};
 ghost use Rattle.codec.specs.Written.{Room, Put};
 ghost use Rattle.notation.specs.GateText.{size, weightsText, gateText};
 

@@ -9,7 +9,6 @@ use types::table::Table;
 ghost use mathlib.Core.Path.{_≡_};
 ghost use Prim.Native.Nat.{_+_, _*_, _≤_, _<_};
 ghost use lib.Count.{ones};
-ghost use lib.ListN.{length};
 ghost use Rattle.codec.specs.Written.{Room, Put};
 ghost use Rattle.notation.specs.WitnessText.{height, pairText, pairsText, witnessText};
 

@@ -1,13 +1,13 @@
 -- Laws of `firstFrom`, the search for the lowest number that passes a test: what it finds and when it finds nothing, each in both
 -- directions, and how it goes on past numbers that fail, as a loop with an early return needs them. Assumes nothing.
 use mathlib.Core.Path.{_≡_, refl, sym, _∙_, ap, ap₂}
-use mathlib.Core.Bool.{Bool, true, false}
+use mathlib.Core.Bool.{Bool, true, false, cond}
 use mathlib.Core.Logic.{⊎-elim}
 use mathlib.Core.Option.{some, none}
 use Prim.Native.Nat.{ℕ, zero, suc, _+_, _-_, _<_, _≤_}
 use native.Mathlib.Nat.{eq-or-lt-of-le, add-zero, zero-add, add-suc, suc-add}
 use native.Mathlib.Omega.{arith}
-use Rattle.numbers.specs.Tests.{firstFrom, pickFirst}
+use Rattle.numbers.specs.Tests.{firstFrom}
 
 -- q is the lowest of the m numbers from r on that passes the test
 pub record IsFirst (test : ℕ → Bool) (m r q : ℕ) : Type 0 where
@@ -20,11 +20,11 @@ module _ (test : ℕ → Bool) where
   -- the search's clauses, by the test at its first number
   first-here : (m r : ℕ) → test r ≡ true → firstFrom test (suc m) r ≡ some r
   unfolding firstFrom
-  first-here m r e = ap (λ (v : Bool). pickFirst v r (firstFrom test m (suc r))) e
+  first-here m r e = ap (λ (v : Bool). cond v (some r) (firstFrom test m (suc r))) e
 
   first-later : (m r : ℕ) → test r ≡ false → firstFrom test (suc m) r ≡ firstFrom test m (suc r)
   unfolding firstFrom
-  first-later m r e = ap (λ (v : Bool). pickFirst v r (firstFrom test m (suc r))) e
+  first-later m r e = ap (λ (v : Bool). cond v (some r) (firstFrom test m (suc r))) e
 
   -- a search that passed d numbers is a search from behind them
   pub first-skip : (d m r : ℕ) → ((q : ℕ) → r ≤ q → q < r + d → test q ≡ false) → firstFrom test (d + m) r ≡ firstFrom test m (r + d)

@@ -12,3 +12,5 @@ pub mod TestLaws
 pub mod FirstLaws
 -- the list of a function's values, and the loop that fills an array with them
 pub mod TabulateLaws
+-- powers of two, and the highest: what it is, and how it goes on from a number to the next
+pub mod PowerLaws

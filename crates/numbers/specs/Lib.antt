@@ -4,3 +4,5 @@ pub mod Sum
 pub mod Tests
 -- the list of a function's values, and lists that hold them
 pub mod Tabulate
+-- the highest power of two
+pub mod Power

@@ -26,14 +26,10 @@ unfoldable pub allBelow : ℕ → (ℕ → Bool) → Bool
 allBelow zero test = true
 allBelow (suc m) test = allBelow m test && test m
 
-abbrev pub pickFirst : Bool → ℕ → Option ℕ → Option ℕ
-pickFirst true r later = some r
-pickFirst false r later = later
-
 -- the lowest of the m numbers from r on that passes the test
 unfoldable pub firstFrom : (ℕ → Bool) → ℕ → ℕ → Option ℕ
 firstFrom test zero r = none
-firstFrom test (suc m) r = let later = firstFrom test m (suc r) in pickFirst (test r) r later
+firstFrom test (suc m) r = let later = firstFrom test m (suc r) in cond (test r) (some r) later
 
 abbrev pub isSome : Option ℕ → Bool
 isSome none = false

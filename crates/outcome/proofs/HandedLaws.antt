@@ -10,18 +10,14 @@ use lib.IntN.{ℤ}
 use Rattle.cell.specs.Refusal.{Answered, answered, refused, refuseIf}
 use Rattle.writers.specs.declared.write.Written.{Written}
 use Rattle.writers.specs.declared.write.Written.the-variants as Written′
-use Rattle.writers.specs.Calls.{written, lent}
+use Rattle.writers.specs.Calls.{written, WroteBytes}
 use Rattle.results.specs.Result.{asResult, measured, fitted, Returned}
 use Rattle.outcome.specs.Outcome.{Handed, withMade, madeAfter, HandedOver}
 
 -- ---- a writer
 
--- the contract: the answer, and the buffer before and after the call
-abbrev pub Wrote : Answered (List ℕ) → List ℕ → Written → List ℕ → Type 0
-Wrote a old r new = (r ≡ written a) × (new ≡ lent old a)
-
-pub wrote-as : {a b : Answered (List ℕ)} (old : List ℕ) → a ≡ b → {r : Written} {new : List ℕ} → Wrote a old r new → Wrote b old r new
-wrote-as old same {r} {new} p = subst (λ (x : Answered (List ℕ)). Wrote x old r new) same p
+pub wrote-as : {a b : Answered (List ℕ)} (old : List ℕ) → a ≡ b → {r : Written} {new : List ℕ} → WroteBytes a old r new → WroteBytes b old r new
+wrote-as old same {r} {new} p = subst (λ (x : Answered (List ℕ)). WroteBytes x old r new) same p
 
 -- what a writer's answer says of what it wrote
 pub written-refused : (a : Answered (List ℕ)) {n : ℕ} → written a ≡ Written′.Refused n → refused n ≡ a

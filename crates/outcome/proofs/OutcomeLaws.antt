@@ -5,8 +5,7 @@ use mathlib.Core.Bool.{true}
 use mathlib.Core.Logic.{inl, inr}
 use mathlib.Core.List.{[], _∷_}
 use Prim.Native.Nat.{ℕ, _≤_}
-use native.Mathlib.Omega.{arith}
-use lib.ListN.{length, length-append}
+use lib.ListN.{length}
 use Rattle.function.specs.Gate.{realises}
 use Rattle.function.specs.Witness.{countOf, balances}
 use Rattle.table.specs.Table.{functionOf}
@@ -19,15 +18,10 @@ use Rattle.types.specs.declared.stage.Stage.{Stage}
 use Rattle.types.specs.declared.stage.Stage.the-variants.{Open, Found, Looped, Binate}
 use Rattle.job.specs.Calls.{jobRules, isEnded, gateOf, witnessOf}
 use Rattle.job.proofs.JobChecked.{kept-sound}
-use Rattle.codec.specs.TableField.{headBytes}
-use Rattle.codec.specs.VectorField.{vectorBytes}
-use Rattle.codec.specs.RowList.{rowListBytes}
-use Rattle.codec.proofs.NumberLaws.{number-length}
 use Rattle.theory.proofs.Answers.{EndedWithout, found-accepted, ended-accepted}
-use Rattle.records.specs.Record.{ofGate, ofWitness, ofJob, gateVector, bodyBytes, recordBytes}
+use Rattle.records.specs.Record.{ofGate, ofWitness, ofJob, recordBytes}
 use Rattle.writers.specs.Calls.{hasEnded, tooShort, writeRecord}
-use Rattle.writers.proofs.WriteLaws.{head-most, vector-most, rows-most}
-use Rattle.writers.proofs.JobBytes.{job-parts, job-count}
+use Rattle.bodies.proofs.BodyLaws.{record-most}
 use Rattle.results.specs.Result.{fitted}
 use Rattle.outcome.specs.Outcome.{outcomeIn, outcome, outcomeWritten}
 
@@ -72,30 +66,10 @@ module _ (j : Job) (kept : NoneBroken (jobRules j [])) (room : ℕ) where
 
 -- what a job has come to takes at most 2,048 bytes
 pub outcome-most : (j : Job) → j .table .n ≤ 8 → length (recordBytes (outcome j)) ≤ 2048
-unfolding recordBytes bodyBytes headBytes
 outcome-most j n = by (j .state .stage)
   where
-    witness : length (recordBytes (ofWitness (j .table) (witnessOf j))) ≤ 2048
-    witness = omega (arith, length-append (headBytes 3 (j .table)) (rowListBytes (j .state .counts)), head-most 3 (j .table) n, rows-most (j .state .counts))
-
     by : (x : Stage) → length (recordBytes (outcomeIn x j)) ≤ 2048
-    by Open =
-        omega (
-          arith,
-          ap length (job-parts j),
-          job-count j,
-          head-most 4 (j .table) n,
-          number-length (j .state .k),
-          vector-most (j .table .n) (j .state .v) n,
-          vector-most (j .table .n) (j .state .s) n,
-          rows-most (j .state .counts),
-        )
-    by Found =
-        omega (
-          arith,
-          length-append (headBytes 2 (j .table)) (vectorBytes (j .table .n) (gateVector (gateOf j))),
-          head-most 2 (j .table) n,
-          vector-most (j .table .n) (gateVector (gateOf j)) n,
-        )
-    by Looped = witness
-    by Binate = witness
+    by Open = record-most (ofJob j) n
+    by Found = record-most (ofGate (j .table) (gateOf j)) n
+    by Looped = record-most (ofWitness (j .table) (witnessOf j)) n
+    by Binate = record-most (ofWitness (j .table) (witnessOf j)) n

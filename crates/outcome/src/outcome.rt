@@ -15,7 +15,7 @@ ghost use mathlib.Core.List.{[]};
 ghost use lib.ListN.{length};
 ghost use Rattle.cell.specs.Refusal.{NoneBroken};
 ghost use Rattle.job.specs.Calls.{jobRules};
-ghost use Rattle.writers.specs.Calls.{written, lent};
+ghost use Rattle.writers.specs.Calls.{WroteBytes};
 ghost use Rattle.outcome.specs.Outcome.{jobOf, outcomeWritten, withMade, HandedOver};
 
 // Returns the counts of a state as a witness.
@@ -30,7 +30,7 @@ fn witness_of(state: State) -> Witness
 // open job. Refusal: 12.
 fn write_outcome(table: Table, state: State, out: &mut [u8]) -> Written
     requires { ⌜ NoneBroken (jobRules (jobOf table state) []) ⌝ }
-    ensures { λ r. ⌜ (let w = outcomeWritten (length (now (out .entry))) (jobOf table state) in (r ≡ written w) × (now (out .exit) ≡ lent (now (out .entry)) w)) ⌝ }
+    ensures { λ r. ⌜ WroteBytes (outcomeWritten (length (now (out .entry))) (jobOf table state)) (now (out .entry)) r (now (out .exit)) ⌝ }
 {
     let stage = state.stage;
     match stage {

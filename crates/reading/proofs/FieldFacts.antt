@@ -11,9 +11,9 @@ use Rattle.types.specs.declared.table.Table.{Table}
 use Rattle.cell.specs.declared.refusal.Status.{Status}
 use Rattle.cell.specs.declared.refusal.Status.the-variants as Status′
 use mathlib.Core.List.{List, [], _∷_}
-use Rattle.cell.specs.Refusal.{Answered, answered, refused}
+use Rattle.cell.specs.Refusal.{Answered, answered, refused, andThen}
 use Rattle.types.specs.declared.vector.Vector.{Vector}
-use Rattle.codec.specs.Field.{Field, Reading, field}
+use Rattle.codec.specs.Field.{Field, Reading, field, onward}
 use Rattle.codec.specs.Kind.{Family, tables, gates, witnesses, jobs}
 use Rattle.types.specs.declared.kind.Kind.{Kind}
 use Rattle.types.specs.declared.kind.Kind.the-variants as Kind′
@@ -123,6 +123,12 @@ family-back (answered witnesses) = refl
 family-back (answered jobs) = refl
 family-back (refused n) = refl
 
+-- what follows a kind that was read, where that ended
+pub after-kind : {A : Type 0} (body : Family → List ℕ → ℕ → Reading A) (s : List ℕ) (r : Reading Family)
+    → andThen (familyOf (kindField r .kind)) (λ f. body f s (kindField r .next)) ≡ onward r (λ f p. body f s p)
+after-kind body s (answered f) = ap (λ (a : Answered Family). andThen a (λ g. body g s (f .next))) (family-back (answered (f .value)))
+after-kind body s (refused n) = refl
+
 -- what the code's kind says of the family
 pub family-is : (r : Answered Family) {k : Kind} → k ≡ asKind r → r ≡ familyOf k
 family-is r e = sym (family-back r) ∙ ap familyOf (sym e)
@@ -130,13 +136,6 @@ family-is r e = sym (family-back r) ∙ ap familyOf (sym e)
 -- it is one of the kinds of a record
 abbrev pub Whole : Kind → Type 0
 Whole k = OneOf (0 ∷ 1 ∷ 2 ∷ 3 ∷ []) (tagOf the-type k)
-
-pub whole-family : (r : Answered Family) → Whole (asKind r) → (f : Family) × (r ≡ answered f)
-whole-family (answered f) k = (f, refl)
-whole-family (refused n) k = absurd (none k)
-  where
-    none : OneOf (0 ∷ 1 ∷ 2 ∷ 3 ∷ []) 4 → ⊥
-    none = ⊎-elim (λ e. omega arith) (⊎-elim (λ e. omega arith) (⊎-elim (λ e. omega arith) (λ e. omega arith)))
 
 -- a kind that is no refusal has a family
 pub kind-family : (k : Kind) → Whole k → (f : Family) × (familyOf k ≡ answered f)
@@ -148,6 +147,9 @@ kind-family (Kind′.Refused n) w = absurd (none w)
   where
     none : OneOf (0 ∷ 1 ∷ 2 ∷ 3 ∷ []) 4 → ⊥
     none = ⊎-elim (λ e. omega arith) (⊎-elim (λ e. omega arith) (⊎-elim (λ e. omega arith) (λ e. omega arith)))
+
+pub whole-family : (r : Answered Family) → Whole (asKind r) → (f : Family) × (r ≡ answered f)
+whole-family r w = let (f, is) = kind-family (asKind r) w in (f, sym (family-back r) ∙ is)
 
 -- it was refused
 pub kind-refused : (r : Reading Family) {x : KindField} {n : ℕ} → x ≡ kindField r → x .kind ≡ Kind′.Refused n → r ≡ refused n

@@ -10,14 +10,14 @@ use native.Mathlib.Omega.{arith}
 use lib.ListN.{length, getD, set, take, drop, replicate, length-drop, length-replicate, replicate-append-replicate}
 use lib.Seq.{paste-suc, drop-at, length-take-le, getD-drop}
 use borrow.Author.Tests.{lt-ltb, le-ltb}
-use Rattle.table.specs.Table.{rowsOf, spareSet}
+use Rattle.table.specs.Table.{rowsOf, bitBytes, padded, spareSet}
 use Rattle.cell.specs.Refusal.{Answered, answered, refused, andThen}
 use Rattle.codec.specs.Field.{Field, Reading, field, onward}
 use Rattle.codec.specs.Kind.{Family, tablesAlone, kindAt}
 use Rattle.codec.specs.Number.{numberAt}
-use Rattle.codec.specs.TableField.{bitBytes, inputsAt, padded, bitsAt, tableOf, tableAt, tableRecordAt}
+use Rattle.codec.specs.TableField.{inputsAt, bitsAt, tableOf, tableAt, tableRecordAt}
 use Rattle.reading.specs.Fields.{kindField, tableBy, tableField}
-use Rattle.reading.proofs.FieldFacts.{family-back}
+use Rattle.reading.proofs.FieldFacts.{after-kind}
 
 -- ---- the array of a table
 
@@ -50,7 +50,7 @@ module _ (rows : ℕ) (s : List ℕ) (at : ℕ) where
   bits-short h = rw (lt-ltb (length s) (at + bitBytes rows) h)
 
   -- they are all there
-  pub bits-whole : at + bitBytes rows ≤ length s → answered (field (padded (take (bitBytes rows) (drop at s))) (at + bitBytes rows)) ≡ bitsAt rows s at
+  pub bits-whole : at + bitBytes rows ≤ length s → answered (field (padded 32 0 (take (bitBytes rows) (drop at s))) (at + bitBytes rows)) ≡ bitsAt rows s at
   bits-whole h = rw (le-ltb (length s) (at + bitBytes rows) h)
 
 -- ---- n
@@ -95,12 +95,7 @@ module _ (s : List ℕ) (at : ℕ) where
 
 -- ---- a kind, then a table
 
--- the table that follows a kind that was read, where that ended
-pub kind-then-table : (s : List ℕ) (r : Reading Family) → tableField (tableBy (kindField r .kind) s (kindField r .next)) ≡ tableField (onward r (λ f p. tableAt s p))
-kind-then-table s (answered f) = ap (λ (a : Answered Family). tableField (andThen a (λ g. tableAt s (f .next)))) (family-back (answered (f .value)))
-kind-then-table s (refused n) = refl
-
 -- the record of a table alone
 pub table-record : (s : List ℕ) (at : ℕ) → (let k = kindField (kindAt tablesAlone s at) in tableField (tableBy (k .kind) s (k .next))) ≡ tableField (tableRecordAt s at)
 unfolding tableRecordAt
-table-record s at = kind-then-table s (kindAt tablesAlone s at)
+table-record s at = ap tableField (after-kind (λ f. tableAt) s (kindAt tablesAlone s at))

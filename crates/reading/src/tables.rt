@@ -9,8 +9,9 @@ use types::table::Table;
 ghost use mathlib.Core.Path.{_≡_};
 ghost use Prim.Native.Nat.{_+_, _≤_};
 ghost use lib.ListN.{length, take, drop};
+ghost use Rattle.table.specs.Table.{padded};
 ghost use Rattle.cell.specs.Refusal.{refused};
-ghost use Rattle.codec.specs.TableField.{bitBytes, padded, bitsAt, tableAt};
+ghost use Rattle.codec.specs.TableField.{bitsAt, tableAt};
 ghost use Rattle.reading.specs.Fields.{bitsField, tableBy, tableField};
 
 // The bits of rows, 0 past them, and the position after them, or the number of a refusal.
@@ -55,7 +56,7 @@ fn no_table(number: u8) -> TableField
 // Returns so many bytes at a position, and zeros behind them.
 fn bytes_at(bytes: &[u8], at: usize, count: usize) -> [u8; 32]
     requires { ⌜ (count ≤ 32) × (at + count ≤ length (now bytes)) ⌝ }
-    ensures { λ r. ⌜ r ≡ padded (take count (drop at (now (bytes .entry)))) ⌝ }
+    ensures { λ r. ⌜ r ≡ padded 32 0 (take count (drop at (now (bytes .entry)))) ⌝ }
 {
     let mut own = [0u8; 32];
     let mut i: usize = 0;

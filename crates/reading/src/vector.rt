@@ -2,10 +2,10 @@
 use crate::number::read_number;
 use cell::refusal::Status;
 use table::gate::WEIGHT_LIMIT;
+use table::gate::is_within;
 use types::vector::Vector;
 ghost use mathlib.Core.Path.{_≡_};
 ghost use Prim.Native.Nat.{_≤_, _<_};
-ghost use Rattle.table.specs.Gate.{weightLimit, within};
 ghost use Rattle.cell.specs.Refusal.{refused};
 ghost use Rattle.codec.specs.Number.{signedOf};
 ghost use Rattle.codec.specs.VectorField.{signedAt, vectorAt};
@@ -32,14 +32,6 @@ fn signed_of(x: u32) -> i32
 {
     let half = (x / 2) as i32;
     if x % 2 == 0 { half } else { -1 - half }
-}
-
-// Whether a weight or T is within its range.
-fn is_weight(z: i32) -> bool
-    ensures { λ r. ⌜ r ≡ within weightLimit z ⌝ }
-{
-    let most = WEIGHT_LIMIT as i32;
-    0 - most <= z && z <= most
 }
 
 // Returns a refusal.
@@ -74,7 +66,7 @@ pub fn read_signed(bytes: &[u8], at: usize, strict: bool) -> SignedField
         return no_signed(refusal);
     }
     let value = signed_of(number.value);
-    if strict && !is_weight(value) {
+    if strict && !is_within(value, WEIGHT_LIMIT) {
         return no_signed(7);
     }
     SignedField {

@@ -1,2 +1,3 @@
 -- What the walks of a record's functions share.
+pub mod Stop
 pub mod Travel

@@ -1,20 +1,20 @@
 -- A record read by a reader that travels: its kind byte, what follows it, and the end. Each step's struct leaves what the next one needs, and
 -- a refusal is passed on to the last. Assumes nothing.
 use mathlib.Core.Path.{_≡_, refl, sym, _∙_, ap}
-use mathlib.Core.Bool.{Bool, true, false}
+use mathlib.Core.Bool.{Bool, true, false, cond}
 use mathlib.Core.List.{List, [], _∷_}
-use Prim.Native.Nat.{ℕ}
-use lib.Dec.{ltb}
-use lib.ListN.{length}
-use Rattle.cell.specs.Refusal.{Answered, answered, refused, andThen, checked}
-use Rattle.codec.specs.Field.{Field, Reading, onward}
-use Rattle.codec.specs.Kind.{Family, everyFamily, kindAt}
-use Rattle.reading.specs.declared.kind.KindField.{KindField}
+use Prim.Native.Nat.{ℕ, _+_}
+use lib.Dec.{ltb, eqb}
+use lib.ListN.{length, getD}
+use Rattle.cell.specs.Refusal.{Answered, rule, answered, refused, andThen, checked}
+use Rattle.codec.specs.Field.{Field, Reading, field, onward}
+use Rattle.codec.specs.Kind.{Family, tables, everyFamily, tablesAlone, familyIn, kindAt}
+use Rattle.codec.specs.TableField.{tableAt, tableRecordAt}
 use Rattle.reading.specs.Fields.{familyOf, kindField}
-use Rattle.reading.proofs.FieldFacts.{family-back}
+use Rattle.reading.proofs.FieldFacts.{after-kind}
 use Rattle.records.specs.declared.read.Read.{Read}
 use Rattle.records.specs.declared.read.Body.{Body}
-use Rattle.records.specs.Record.{Record, ofTable, ofGate, ofWitness, ofJob, family, bodyAt, bytesLeft, recordAt}
+use Rattle.records.specs.Record.{Record, ofTable, ofGate, ofWitness, ofJob, family, bodyAt, bytesLeft, recordAt, singleAt}
 use Rattle.records.specs.Calls.{asRead, asBody, bodyBy, endIn, ended}
 
 -- the kind beside a record is that of its family
@@ -39,17 +39,22 @@ body-ended s (answered f) =
     ∙ end-by (family (f .value)) (f .value) (ltb (f .next) (length s)) s (f .next) refl
 body-ended s (refused n) = refl
 
--- what follows a kind byte that was read, where it ended, and then the end
-pub record-ended : (s : List ℕ) (r : Reading Family) (later : Family → ℕ → Reading Record)
-    → (let k = kindField r in let b = asBody (andThen (familyOf (k .kind)) (λ f. later f (k .next))) in ended (b .read) s (b .next))
-    ≡ asRead (onward r (λ f p. onward (later f p) (atEnd s)))
-record-ended s (answered f) later =
-    ap (λ (a : Answered Family). let b = asBody (andThen a (λ g. later g (f .next))) in ended (b .read) s (b .next)) (family-back (answered (f .value)))
-    ∙ body-ended s (later (f .value) (f .next))
-record-ended s (refused n) later = refl
-
 -- a whole record
 pub record-read : (s : List ℕ) (at : ℕ)
-    → (let k = kindField (kindAt everyFamily s at) in let b = asBody (bodyBy (k .kind) s (k .next)) in ended (b .read) s (b .next)) ≡ asRead (recordAt s at)
-unfolding recordAt
-record-read s at = record-ended s (kindAt everyFamily s at) (λ f p. bodyAt f s p)
+    → (let k = kindField (kindAt everyFamily s at) in let b = asBody (bodyBy (k .kind) s (k .next)) in ended (b .read) s (b .next)) ≡ asRead (singleAt s at)
+unfolding recordAt singleAt
+record-read s at =
+    ap (λ (r : Reading Record). let b = asBody r in ended (b .read) s (b .next)) (after-kind bodyAt s (kindAt everyFamily s at)) ∙ body-ended s (recordAt everyFamily s at)
+
+-- a report's record is what is read where tables alone are taken
+pub table-alone : (s : List ℕ) (at : ℕ) → recordAt tablesAlone s at ≡ onward (tableRecordAt s at) (λ t next. answered (field (ofTable t) next))
+unfolding familyIn tableRecordAt bodyAt recordAt
+table-alone s at = by (ltb (length s) (at + 1)) (eqb (getD s at 0) 1)
+  where
+    kind : (early is : Bool) → Reading Family
+    kind early is = checked (rule 1 early ∷ []) (andThen (cond is (answered tables) (refused 5)) (λ f. answered (field f (at + 1))))
+
+    by : (early is : Bool) → onward (kind early is) (λ f p. bodyAt f s p) ≡ onward (onward (kind early is) (λ f p. tableAt s p)) (λ t next. answered (field (ofTable t) next))
+    by true is = refl
+    by false true = refl
+    by false false = refl

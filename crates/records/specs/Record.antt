@@ -10,15 +10,16 @@ use Rattle.types.specs.declared.witness.Witness.{Witness}
 use Rattle.table.specs.Table.{rows}
 use Rattle.cell.specs.Refusal.{Rule, rule, Answered, answered, checked}
 use Rattle.types.specs.declared.vector.Vector.{Vector}
-use Rattle.machine.specs.Power.{highest}
+use Rattle.numbers.specs.Power.{highest}
 use Rattle.job.specs.declared.job.Job.{Job}
 use Rattle.types.specs.declared.stage.Stage.the-variants.{Open}
+pub use Rattle.job.specs.Calls.{vectorGate}
 use Rattle.job.specs.Sound.{isSound}
 use Rattle.codec.specs.Field.{Reading, field, onward}
 use Rattle.codec.specs.Number.{numberBytes, numberAt}
 use Rattle.codec.specs.VectorField.{vectorBytes, vectorAt}
 use Rattle.codec.specs.RowList.{RowList, rowListBytes, rowListAt}
-use Rattle.codec.specs.Kind.{Family, tables, gates, witnesses, jobs, kindOf, everyFamily, kindAt}
+use Rattle.codec.specs.Kind.{Family, tables, gates, witnesses, jobs, kindOf, everyFamily, recordWith}
 use Rattle.codec.specs.TableField.{tableBytes, tableAt}
 
 -- kinds 1 to 4: a table; a table with a gate; with a witness; an open job
@@ -35,12 +36,9 @@ family (ofGate t g) = gates
 family (ofWitness t w) = witnesses
 family (ofJob j) = jobs
 
--- the weights and T of a gate as a vector, and back
+-- the weights and T of a gate as a vector; back it is `vectorGate`
 abbrev pub gateVector : Gate → Vector
 gateVector g = record { a = g .weights; b = g .threshold }
-
-abbrev pub vectorGate : ℕ → Vector → Gate
-vectorGate n v = record { n = n; weights = v .a; threshold = v .b }
 
 -- ---- written
 
@@ -99,14 +97,19 @@ restAt jobs t s at = jobAt t s at
 unfoldable pub bodyAt : Family → List ℕ → ℕ → Reading Record
 bodyAt f s at = onward (tableAt s at) (λ t p. restAt f t s p)
 
+-- a record from a position on, of the families that a caller takes
+unfoldable pub recordAt : List Family → List ℕ → ℕ → Reading Record
+recordAt takes s at = recordWith takes bodyAt s at
+
 -- 6: bytes left after a single record
 abbrev pub bytesLeft : List ℕ → ℕ → Rule
 bytesLeft s at = rule 6 (ltb at (length s))
 
--- the single record from a position to the end
-unfoldable pub recordAt : List ℕ → ℕ → Answered Record
-recordAt s at = onward (kindAt everyFamily s at) (λ f p. onward (bodyAt f s p) (λ x next. checked (bytesLeft s next ∷ []) (answered x)))
+-- the single record, of every family, from a position to the end
+unfoldable pub singleAt : List ℕ → ℕ → Answered Record
+unfolding recordAt
+singleAt s at = onward (recordAt everyFamily s at) (λ x next. checked (bytesLeft s next ∷ []) (answered x))
 
 -- what bytes mean: one record, or one number
 abbrev pub readRecord : List ℕ → Answered Record
-readRecord s = recordAt s 0
+readRecord s = singleAt s 0

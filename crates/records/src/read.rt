@@ -1,7 +1,6 @@
 // A record read from a slice.
 use cell::refusal::Status;
 use job::job::Job;
-use job::job::job_status;
 use machine::power::top_power;
 use machine::vector::vector_gate;
 use reading::kind::KindField;
@@ -9,6 +8,7 @@ use reading::number::read_number;
 use reading::tables::read_table;
 use reading::vector::read_vector;
 use rowlists::read::read_rows;
+use soundness::sound::is_sound;
 use table::table::row_count;
 use types::gate::Gate;
 use types::kind::Kind;
@@ -18,14 +18,11 @@ use types::table::Table;
 use types::vector::Vector;
 use types::witness::Witness;
 ghost use mathlib.Core.Path.{_≡_};
-ghost use mathlib.Core.List.{[]};
 ghost use Prim.Native.Nat.{_≤_};
 ghost use Rattle.table.specs.Table.{rowsOf};
-ghost use Rattle.cell.specs.Refusal.{answered, refused, NoneBroken};
-ghost use Rattle.cell.specs.Calls.{tableRules};
-ghost use Rattle.job.specs.Sound.{isSound};
+ghost use Rattle.cell.specs.Refusal.{refused};
 ghost use Rattle.job.specs.Calls.{noGate, noWitness};
-ghost use Rattle.records.specs.Record.{ofGate, ofWitness, ofJob, vectorGate, gateAt, witnessAt, openJob, countsAt, jobAt};
+ghost use Rattle.records.specs.Record.{gateAt, witnessAt, openJob, countsAt, jobAt};
 ghost use Rattle.records.specs.Calls.{noJob, asRead, asBody, restBy, bodyBy, ended};
 
 // A record's kind and parts. What the kind does not have is all 0.
@@ -97,56 +94,6 @@ fn no_body(number: u8) -> Body
     }
 }
 
-// Returns the record of a table with a gate.
-fn with_gate(table: Table, v: Vector) -> Read
-    ensures { λ r. ⌜ r ≡ asRead (answered (ofGate table (vectorGate (table .n) v))) ⌝ }
-{
-    let plain = bare(Kind::Gate, table);
-    let witness = plain.witness;
-    let job = plain.job;
-    let gate = vector_gate(table.n, v);
-    Read {
-        kind: Kind::Gate,
-        table,
-        gate,
-        witness,
-        job,
-    }
-}
-
-// Returns the record of a table with a witness.
-fn with_witness(table: Table, counts: [u32; 256]) -> Read
-    ensures { λ r. ⌜ r ≡ asRead (answered (ofWitness table (record { counts = counts }))) ⌝ }
-{
-    let plain = bare(Kind::Witness, table);
-    let gate = plain.gate;
-    let job = plain.job;
-    Read {
-        kind: Kind::Witness,
-        table,
-        gate,
-        witness: Witness { counts },
-        job,
-    }
-}
-
-// Returns the record of an open job.
-fn with_job(job: Job) -> Read
-    ensures { λ r. ⌜ r ≡ asRead (answered (ofJob job)) ⌝ }
-{
-    let table = job.table;
-    let plain = bare(Kind::Job, table);
-    let gate = plain.gate;
-    let witness = plain.witness;
-    Read {
-        kind: Kind::Job,
-        table,
-        gate,
-        witness,
-        job,
-    }
-}
-
 // Reads the weights and T of a gate. Refusals: 1, 4, 7.
 fn read_gate(bytes: &[u8], at: usize, table: Table) -> Body
     requires { ⌜ table .n ≤ 8 ⌝ }
@@ -157,8 +104,10 @@ fn read_gate(bytes: &[u8], at: usize, table: Table) -> Body
     if let Status::Refused(number) = status {
         return no_body(number);
     }
+    let mut read = bare(Kind::Gate, table);
+    read.gate = vector_gate(table.n, field.v);
     Body {
-        read: with_gate(table, field.v),
+        read,
         next: field.next,
     }
 }
@@ -182,8 +131,11 @@ fn read_witness(bytes: &[u8], at: usize, table: Table) -> Body
         return no_body(number);
     }
     let counts = field.counts;
+    let witness = Witness { counts };
+    let mut read = bare(Kind::Witness, table);
+    read.witness = witness;
     Body {
-        read: with_witness(table, counts),
+        read,
         next: field.next,
     }
 }
@@ -205,21 +157,9 @@ fn open_job(table: Table, k: u32, v: Vector, s: Vector, counts: [u32; 256]) -> J
     }
 }
 
-// Whether a job on a table that keeps its format is sound.
-fn is_sound(job: Job) -> bool
-    requires { ⌜ NoneBroken (tableRules (job .table) []) ⌝ }
-    ensures { λ r. ⌜ r ≡ isSound job ⌝ }
-{
-    let status = job_status(job);
-    match status {
-        Status::Done => true,
-        Status::Refused(_) => false,
-    }
-}
-
 // Reads the row list of a job whose other numbers were read, and tests the job. Refusals: 1, 4, 9.
 fn read_counts(bytes: &[u8], at: usize, table: Table, k: u32, v: Vector, s: Vector) -> Body
-    requires { ⌜ NoneBroken (tableRules table []) ⌝ }
+    requires { ⌜ table .n ≤ 8 ⌝ }
     ensures { λ r. ⌜ r ≡ asBody (countsAt table k v s (now (bytes .entry)) at) ⌝ }
 {
     let field = read_rows(bytes, at, rows_of(table.n), false);
@@ -232,18 +172,20 @@ fn read_counts(bytes: &[u8], at: usize, table: Table, k: u32, v: Vector, s: Vect
     if !field.kept {
         return no_body(9);
     }
-    if !is_sound(job) {
+    if !is_sound(table, job.state) {
         return no_body(9);
     }
+    let mut read = bare(Kind::Job, table);
+    read.job = job;
     Body {
-        read: with_job(job),
+        read,
         next: field.next,
     }
 }
 
 // Reads K, v, s and the row list of an open job. Refusals: 1, 4, 9.
 fn read_job(bytes: &[u8], at: usize, table: Table) -> Body
-    requires { ⌜ NoneBroken (tableRules table []) ⌝ }
+    requires { ⌜ table .n ≤ 8 ⌝ }
     ensures { λ r. ⌜ r ≡ asBody (jobAt table (now (bytes .entry)) at) ⌝ }
 {
     let k = read_number(bytes, at);
@@ -266,7 +208,7 @@ fn read_job(bytes: &[u8], at: usize, table: Table) -> Body
 
 // Reads what follows a table, by the kind. Refusals: the kind's; 1, 4, and 7, 8 or 9 by the kind.
 fn read_rest(bytes: &[u8], at: usize, kind: Kind, table: Table) -> Body
-    requires { ⌜ NoneBroken (tableRules table []) ⌝ }
+    requires { ⌜ table .n ≤ 8 ⌝ }
     ensures { λ r. ⌜ r ≡ asBody (restBy kind table (now (bytes .entry)) at) ⌝ }
 {
     match kind {

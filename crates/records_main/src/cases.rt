@@ -1,5 +1,6 @@
 // One line of a list: a record of the set, a byte string to be read, or what a writer refuses.
 use crate::buffer;
+use crate::buffer::Buffer;
 use crate::buffer::ROOM;
 use crate::buffer::is_right;
 use crate::sample;
@@ -52,7 +53,14 @@ fn show_whole(record: Read, bytes: &[u8]) {
     tally::print(b" room", spoiled::rooms(record, bytes));
 }
 
-// Prints both lines of a record; the second ends with what comes of reading it cut and changed.
+// Ends a line with what comes of reading a record cut and changed.
+fn show_spoiled(bytes: [u8; 1300], length: usize) {
+    tally::print(b" cut", spoiled::cut(&bytes, length));
+    tally::print(b" changed", spoiled::changes(bytes, length));
+    show::word(b"\n");
+}
+
+// Prints both lines of a record.
 pub fn record(line: &[u8]) {
     let record = sample::of_line(line);
     let written = buffer::written(record, ROOM);
@@ -61,8 +69,14 @@ pub fn record(line: &[u8]) {
     show_bytes(line, first_bytes(&bytes, length));
     show::word(word(line, 0));
     show_whole(record, first_bytes(&bytes, length));
-    tally::print(b" cut", spoiled::cut(&bytes, length));
-    tally::print(b" changed", spoiled::changes(bytes, length));
+    show_spoiled(bytes, length);
+}
+
+// Ends a line, with a word where something is wrong.
+fn end_line(is_right: bool) {
+    if !is_right {
+        show::word(b" wrong");
+    }
     show::word(b"\n");
 }
 
@@ -73,10 +87,7 @@ fn show_reading(string: &[u8; 64], length: usize) {
     let kind = answer.kind;
     show::word(b":");
     show::number(sample::number_of(kind) as u64);
-    if !spoiled::is_right_reading(answer, bytes) {
-        show::word(b" wrong");
-    }
-    show::word(b"\n");
+    end_line(spoiled::is_right_reading(answer, bytes));
 }
 
 // Prints a line of a name and a byte string in base sixteen, and the number that reading the string gives.
@@ -92,6 +103,13 @@ pub fn string(line: &[u8]) {
     show_reading(&bytes, at / 2);
 }
 
+// Whether writing a record into a long buffer and into none left what it must.
+fn are_right(full: Buffer, empty: Buffer) -> bool {
+    let bytes = full.bytes;
+    let own = first_bytes(&bytes, full.length);
+    is_right(full, own) && is_right(empty, own)
+}
+
 // Prints a line, and the numbers that writing its record into a long buffer and into none gives.
 pub fn refusal(line: &[u8]) {
     let record = sample::of_line(line);
@@ -101,10 +119,5 @@ pub fn refusal(line: &[u8]) {
     show::word(b":");
     show::number(full.number as u64);
     show::number(empty.number as u64);
-    let bytes = full.bytes;
-    let own = first_bytes(&bytes, full.length);
-    if !is_right(full, own) || !is_right(empty, own) {
-        show::word(b" wrong");
-    }
-    show::word(b"\n");
+    end_line(are_right(full, empty));
 }

@@ -23,13 +23,25 @@ use writers::write::write_gate;
 use writers::write::write_table;
 use writers::write::write_witness;
 
+// Returns the state all of whose numbers are 0.
+fn no_state() -> State {
+    let zero = Vector { a: [0i32; 8], b: 0 };
+    State {
+        k: 0,
+        v: zero,
+        mark: 0,
+        s: zero,
+        counts: [0u32; 256],
+        stage: Stage::Open,
+    }
+}
+
 // Returns the record that has no part: all numbers are 0.
 pub fn bare(kind: Kind) -> Read {
     let table = Table {
         n: 0,
         bytes: [0u8; 32],
     };
-    let zero = Vector { a: [0i32; 8], b: 0 };
     Read {
         kind,
         table,
@@ -43,14 +55,7 @@ pub fn bare(kind: Kind) -> Read {
         },
         job: Job {
             table,
-            state: State {
-                k: 0,
-                v: zero,
-                mark: 0,
-                s: zero,
-                counts: [0u32; 256],
-                stage: Stage::Open,
-            },
+            state: no_state(),
         },
     }
 }
@@ -75,29 +80,38 @@ fn with_gate(table: Table, n: u8, v: Vector) -> Read {
     record
 }
 
+// Returns the record of a table with a witness.
+fn with_witness(table: Table, counts: [u32; 256]) -> Read {
+    let mut record = with_table(Kind::Witness, table);
+    let witness = Witness { counts };
+    record.witness = witness;
+    record
+}
+
+// Returns the record of a job after one carry-on.
+fn with_job(made: Job, budget: u32) -> Read {
+    let mut record = with_table(Kind::Job, made.table);
+    let carried = made.carry_on(budget);
+    let job = carried.job;
+    record.job = job;
+    record
+}
+
 // Returns the record of a line.
 pub fn of_line(line: &[u8]) -> Read {
     let letter = first(word(line, 3));
     let made = make::job(line);
-    let table = made.table;
     if letter == b'T' {
-        return with_table(Kind::Table, table);
+        return with_table(Kind::Table, made.table);
     }
     if letter == b'G' {
-        return with_gate(table, (make::row(line) % 256) as u8, made.state.v);
+        return with_gate(made.table, (make::row(line) % 256) as u8, made.state.v);
     }
     if letter == b'W' {
-        let mut record = with_table(Kind::Witness, table);
         let counts = made.state.counts;
-        let witness = Witness { counts };
-        record.witness = witness;
-        return record;
+        return with_witness(made.table, counts);
     }
-    let mut record = with_table(Kind::Job, table);
-    let carried = made.carry_on(make::budget(line));
-    let job = carried.job;
-    record.job = job;
-    record
+    with_job(made, make::budget(line))
 }
 
 // Writes a record.
@@ -116,11 +130,8 @@ pub fn write(record: Read, out: &mut [u8]) -> Written {
 // Returns the number of a refusal, or 0.
 pub fn number_of(kind: Kind) -> u8 {
     match kind {
-        Kind::Table => 0,
-        Kind::Gate => 0,
-        Kind::Witness => 0,
-        Kind::Job => 0,
         Kind::Refused(number) => number,
+        _ => 0,
     }
 }
 

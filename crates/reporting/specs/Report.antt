@@ -1,4 +1,5 @@
 -- A whole report (document 01, "Kinds, Chow, report"). Definitions only. Assumes nothing.
+use mathlib.Core.Bool.{cond}
 use mathlib.Core.List.{List, _++_}
 use Prim.Native.Nat.{ℕ, zero, suc, _+_, _*_, _≤_}
 use lib.Dec.{ltb}
@@ -9,7 +10,6 @@ use Rattle.types.specs.declared.stage.Stage.the-variants.{Open, Found, Looped, 
 use Rattle.job.specs.Machine.{decided}
 use Rattle.job.specs.Sound.{cap}
 use Rattle.codec.specs.Field.{Reading}
-use Rattle.codec.specs.Number.{pickBytes}
 use Rattle.types.specs.declared.table.Table.{Table}
 use Rattle.codec.specs.TableField.{tableRecordAt}
 use Rattle.reporting.specs.declared.tally.Tally.{Tally}
@@ -54,8 +54,8 @@ recordThen rest t (answered f) =
 -- from a position on: kind 1 records one after another, at most so many
 unfoldable pub reportFrom : ℕ → List ℕ → ℕ → Tally → List ℕ
 reportFrom zero s at t = lastLine t
-reportFrom (suc left) s at t = let rest = recordThen (reportFrom left s) t (tableRecordAt s at) in pickBytes (ltb at (length s)) rest (lastLine t)
+reportFrom (suc left) s at t = let rest = recordThen (reportFrom left s) t (tableRecordAt s at) in cond (ltb at (length s)) rest (lastLine t)
 
 -- the report of an input; of one above 65,536 bytes the only line is "R 15"
 unfoldable pub report : List ℕ → List ℕ
-report s = pickBytes (ltb inputMost (length s)) tooLongLine (reportFrom (length s) s 0 noTally)
+report s = cond (ltb inputMost (length s)) tooLongLine (reportFrom (length s) s 0 noTally)

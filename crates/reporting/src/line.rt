@@ -9,10 +9,11 @@ use text::field::put_byte;
 use text::field::put_letter;
 use text::field::put_number;
 use types::stage::Stage;
-ghost use Prim.Native.Nat.{_≤_};
+ghost use mathlib.Core.Path.{_≡_};
+ghost use Prim.Native.Nat.{_≤_, _<_};
 ghost use lib.ListN.{length};
 ghost use Rattle.codec.specs.Written.{Room, Put};
-ghost use Rattle.reporting.specs.Lines.{verdictText, recordLine, refusalLine, tooLongLine, meanText, lastLine, lineRoom};
+ghost use Rattle.reporting.specs.Lines.{verdictText, recordLine, refusalLine, tooLongLine, meanTenths, meanText, lastLine, lineRoom};
 ghost use Rattle.reporting.specs.Report.{inputMost, sumMost, Within};
 
 // The room that every line fits into.
@@ -62,7 +63,15 @@ pub fn refusal_line(out: &mut [u8], position: u64, number: u8) -> usize
     put_byte(out, here, b'\n')
 }
 
-// Writes the mean of K in tenths, half up, or "-" if there is none.
+// Returns the mean of K in tenths, half up.
+fn mean_tenths(gates: u64, sum: u64) -> u64
+    requires { ⌜ (0 < gates) × (gates ≤ inputMost) × (sum ≤ sumMost) ⌝ }
+    ensures { λ r. ⌜ r ≡ meanTenths gates sum ⌝ }
+{
+    (20 * sum + gates) / (2 * gates)
+}
+
+// Writes the mean of K in tenths, or "-" if there is none.
 fn put_mean(out: &mut [u8], at: usize, gates: u64, sum: u64) -> usize
     requires { ⌜ (gates ≤ inputMost) × (sum ≤ sumMost) × Room (now out) at (meanText gates sum) ⌝ }
     ensures { λ r. ⌜ Put (now (out .entry)) at (meanText gates sum) (now (out .exit)) r ⌝ }
@@ -70,7 +79,7 @@ fn put_mean(out: &mut [u8], at: usize, gates: u64, sum: u64) -> usize
     if gates == 0 {
         return put_byte(out, at, b'-');
     }
-    let tenths = (20 * sum + gates) / (2 * gates);
+    let tenths = mean_tenths(gates, sum);
     let mut here = put_decimal(out, at, tenths / 10);
     here = put_byte(out, here, b'.');
     put_decimal(out, here, tenths % 10)

@@ -12,7 +12,7 @@ use Rattle.cell.proofs.RefusalLaws.{rule-broken, rule-kept}
 use Rattle.codec.specs.Written.{writtenAt}
 use Rattle.cell.specs.declared.refusal.Answer.{Answer}
 use Rattle.cell.specs.Answers.{answer}
-use Rattle.results.specs.Result.{asResult, said, fitted, Returned, resultOf}
+use Rattle.results.specs.Result.{asResult, said, fitted, Returned, saidBy}
 
 -- ---- a call that writes
 
@@ -38,11 +38,11 @@ returned-bytes old bytes long h e =
 
 -- ---- a call that answers
 
-answer-said : (a : Answered Bool) → resultOf (answer a) ≡ asResult (said a)
+answer-said : (a : Answered Bool) → saidBy (answer a) ≡ a
 answer-said (answered true) = refl
 answer-said (answered false) = refl
 answer-said (refused n) = refl
 
 -- r is the number of an answer x, which is what a call comes to
-pub answer-result : (a : Answered Bool) {x : Answer} {r : ℤ} → r ≡ resultOf x → x ≡ answer a → r ≡ asResult (said a)
-answer-result a q e = q ∙ ap resultOf e ∙ answer-said a
+pub answer-result : (a : Answered Bool) {x : Answer} {r : ℤ} → r ≡ asResult (said (saidBy x)) → x ≡ answer a → r ≡ asResult (said a)
+answer-result a q e = q ∙ ap (λ (b : Answered Bool). asResult (said b)) (ap saidBy e ∙ answer-said a)

@@ -67,11 +67,11 @@ saidOf kind rows = andThen (familyOf kind) (rowOf rows)
 
 -- ---- the code's enums
 
--- yes, no or the number of a refusal
-abbrev pub resultOf : Answer → ℤ
-resultOf Answer′.Yes = asResult (answered 1)
-resultOf Answer′.No = asResult (answered 0)
-resultOf (Answer′.Refused n) = asResult (refused n)
+-- what an answer says: yes, no or the number of a refusal
+abbrev pub saidBy : Answer → Answered Bool
+saidBy Answer′.Yes = answered true
+saidBy Answer′.No = answered false
+saidBy (Answer′.Refused n) = refused n
 
 -- the number for what a call does not take: reading's, or that of another kind
 abbrev pub numberIn : Answered Family → ℕ

@@ -3,7 +3,7 @@ use cell::refusal::Answer;
 use types::kind::Kind;
 ghost use mathlib.Core.Path.{_≡_};
 ghost use Rattle.cell.specs.Refusal.{refused};
-ghost use Rattle.results.specs.Result.{asResult, resultOf, numberFor};
+ghost use Rattle.results.specs.Result.{asResult, said, saidBy, numberFor};
 
 // The number of a record that is whole and right, but of a kind that the call does not take. No document has it.
 const OTHER_KIND: u8 = 100;
@@ -17,7 +17,7 @@ pub fn refusal(number: u8) -> i64
 
 // Returns 1 for yes and 0 for no, or the refusal.
 pub fn yes_or_no(answer: Answer) -> i64
-    ensures { λ r. ⌜ r ≡ resultOf answer ⌝ }
+    ensures { λ r. ⌜ r ≡ asResult (said (saidBy answer)) ⌝ }
 {
     match answer {
         Answer::Yes => 1,

@@ -27,7 +27,7 @@ fn repeat_rows(values: &mut [bool; 256], rows: usize)
 }
 
 // Returns the value of each row of the blocks.
-pub fn lane_values(table: Table) -> [bool; 256]
+fn lane_values(table: Table) -> [bool; 256]
     requires { ⌜ table .n ≤ 8 ⌝ }
     ensures { λ r. ⌜ ((row : ℕ) → row < laneRows (table .n) → getD r row false ≡ laneValue table row) ⌝ }
 {
@@ -38,7 +38,7 @@ pub fn lane_values(table: Table) -> [bool; 256]
 }
 
 // Stores what is taken from the distance of each row of the blocks: its value as a number.
-pub fn store_ones(ones: &mut [i16; 256], table: Table, values: &[bool; 256])
+fn store_ones(ones: &mut [i16; 256], table: Table, values: &[bool; 256])
     requires { ⌜ (table .n ≤ 8) × ((row : ℕ) → row < laneRows (table .n) → getD (now values) row false ≡ laneValue table row) ⌝ }
     requires { ⌜ length (now ones) ≡ 256 ⌝ }
     ensures { λ _. ⌜ Holds (oneOf table) (laneRows (table .n)) (now (ones .exit)) ⌝ }
@@ -53,7 +53,7 @@ pub fn store_ones(ones: &mut [i16; 256], table: Table, values: &[bool; 256])
 }
 
 // Stores the key of each row of the blocks.
-pub fn store_keys(keys: &mut [i16; 256], table: Table, values: &[bool; 256])
+fn store_keys(keys: &mut [i16; 256], table: Table, values: &[bool; 256])
     requires { ⌜ (table .n ≤ 8) × ((row : ℕ) → row < laneRows (table .n) → getD (now values) row false ≡ laneValue table row) ⌝ }
     requires { ⌜ length (now keys) ≡ 256 ⌝ }
     ensures { λ _. ⌜ Holds (keyOf table) (laneRows (table .n)) (now (keys .exit)) ⌝ }
@@ -70,4 +70,14 @@ pub fn store_keys(keys: &mut [i16; 256], table: Table, values: &[bool; 256])
         keys[row] = key;
         row = row + 1;
     }
+}
+
+// Stores the ones and the keys of the rows of a table's blocks.
+pub fn store_rows(ones: &mut [i16; 256], keys: &mut [i16; 256], table: Table)
+    requires { ⌜ (table .n ≤ 8) × (length (now ones) ≡ 256) × (length (now keys) ≡ 256) ⌝ }
+    ensures { λ _. ⌜ Holds (oneOf table) (laneRows (table .n)) (now (ones .exit)) × Holds (keyOf table) (laneRows (table .n)) (now (keys .exit)) ⌝ }
+{
+    let values = lane_values(table);
+    store_ones(ones, table, &values);
+    store_keys(keys, table, &values);
 }

@@ -5,7 +5,7 @@ use machine::scan::row_values;
 use machine::vector::same_vector;
 use machine::vector::vector_within;
 use table::inputs::Lowest;
-use table::inputs::is_row;
+use table::inputs::is_found;
 use table::table::row_count;
 use table::witness::counts_within;
 use table::witness::same_counts;
@@ -39,7 +39,7 @@ fn some_fails(table: Table, state: State) -> bool
 {
     let values = row_values(table);
     let mut distances = [0i32; 256];
-    is_row(first_failing(&mut distances, &values, table, state.v))
+    is_found(first_failing(&mut distances, &values, table, state.v))
 }
 
 // Whether some row fails, and v differs from s unless all counts are 0.
@@ -69,7 +69,7 @@ fn has_binate_counts(table: Table, state: State) -> bool
     requires { ⌜ table .n ≤ 8 ⌝ }
     ensures { λ r. ⌜ r ≡ isBinateWith (functionOf table) (binatePlace (functionOf table)) state ⌝ }
 {
-    let Lowest::Row(place) = binate_place(table) else {
+    let Lowest::At(place) = binate_place(table) else {
         return false;
     };
     let counts = state.counts;
@@ -102,11 +102,10 @@ fn is_unate_trace(table: Table, state: State) -> bool
     requires { ⌜ table .n ≤ 8 ⌝ }
     ensures { λ r. ⌜ r ≡ (isTraced (functionOf table) state && not (isSome (binatePlace (functionOf table)))) ⌝ }
 {
-    let counts = state.counts;
-    if !is_traced(table, counts, state.v, state.s, state.mark, state.k) {
+    if !is_traced(table, state) {
         return false;
     }
-    !is_row(binate_place(table))
+    !is_found(binate_place(table))
 }
 
 // Returns the M that a state of this stage has after k corrections.

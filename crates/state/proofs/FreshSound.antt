@@ -1,30 +1,21 @@
 -- The fresh state is sound. Where no input is binate it is open if a row fails, and found if none does. Where one is, the four rows that have
--- counts are rows of the function, and cared for. A table's is open: row 0 fails at v = 0, since its distance is 0. Assumes nothing.
+-- counts are rows of the function, and cared for. Assumes nothing.
 use mathlib.Core.Path.{_≡_, refl, sym, _∙_, ap, subst}
-use mathlib.Core.Bool.{Bool, true, false}
 use mathlib.Core.Option.{Option, some, none}
 use Prim.Native.Nat.{ℕ, _*_}
 use native.Mathlib.Omega.{arith}
-use lib.Pow.{pow-pos}
 use lib.ListN.{length-replicate}
-use lib.IntN.{pos}
-use lib.Signed.{ltZ}
 use Rattle.function.specs.Witness.{zeros}
-use Rattle.numbers.specs.Sum.{weightedSum}
 use Rattle.numbers.specs.Tests.{allAtMost}
-use Rattle.types.specs.declared.table.Table.{Table}
 use Rattle.types.specs.declared.stage.Stage.the-variants.{Open, Found, Binate}
 use Rattle.function.specs.Function.{Function, rows}
-use Rattle.function.specs.Gate.{distance}
-use Rattle.function.specs.Failing.{margin, fails, failing}
+use Rattle.function.specs.Failing.{failing}
 use Rattle.function.specs.Binate.{binatePlace, binateCounts}
 use Rattle.function.specs.Vector.{zeroVector}
 use Rattle.function.proofs.CountLaws.{getD-zeros}
-use Rattle.function.proofs.FailingLaws.{failing-at}
 use Rattle.function.proofs.BinateLaws.{binate-place-lt, length-binate-counts, binate-counts-past, binate-counts-cared}
-use Rattle.table.specs.Table.{value, functionOf}
-use Rattle.machine.proofs.HighestLaws.{highest-zero}
-use Rattle.machine.proofs.RangeLaws.{in-range-correct, zero-in-range}
+use Rattle.numbers.proofs.PowerLaws.{highest-zero}
+use Rattle.function.proofs.RangeLaws.{in-range-correct, zero-in-range}
 use Rattle.state.specs.Machine.{startState, fresh}
 use Rattle.state.specs.Sound.{Ranged, Sound}
 use Rattle.state.proofs.MachineLaws.{fresh-open, fresh-found, fresh-binate}
@@ -79,27 +70,3 @@ module _ (f : Function) where
       by none e none g = subst (Sound f) (sym (fresh-found f e g)) (found-sound e g)
       by none e (some r) g = subst (Sound f) (sym (fresh-open f r e g)) (open-sound r e g)
       by (some place) e first g = subst (Sound f) (sym (fresh-binate f place e)) (binate-sound place e)
-
--- ---- of a table
-
--- row 0 fails at the vector 0
-zero-fails : (t : Table) → fails (functionOf t) zeroVector 0 ≡ true
-unfolding fails distance weightedSum
-zero-fails t = by (value t 0)
-  where
-    by : (y : Bool) → ltZ (margin y (pos 0)) (pos 1) ≡ true
-    by true = refl
-    by false = refl
-
--- so it is the lowest failing row
-pub zero-failing : (t : Table) → failing (functionOf t) zeroVector ≡ some 0
-zero-failing t = failing-at (functionOf t) zeroVector 0 (record {
-  start = omega arith;
-  inside = omega (arith, pow-pos (t .n));
-  passes = zero-fails t;
-  before = λ p l k. absurd (omega arith);
-})
-
--- without a binate input the fresh state of a table is open
-pub table-fresh-open : (t : Table) → binatePlace (functionOf t) ≡ none → fresh (functionOf t) ≡ startState zeros Open
-table-fresh-open t e = fresh-open (functionOf t) 0 e (zero-failing t)

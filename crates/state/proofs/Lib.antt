@@ -12,5 +12,3 @@ pub mod StepSound
 pub mod FreshSound
 -- the machine's states are sound, and K counts the steps
 pub mod Soundness
--- a loop that searches ahead, beside the machine
-pub mod StandsLaws

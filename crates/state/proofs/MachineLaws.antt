@@ -18,7 +18,7 @@ use Rattle.function.specs.Failing.{failing}
 use Rattle.function.specs.Vector.{correctedBy, sameVector, zeroVector}
 use Rattle.function.specs.Binate.{binatePlace, binateCounts}
 use Rattle.state.specs.Machine.{startState, startStage, freshBy, fresh, withStage, markIf, marked, settleBy, corrected, settled, closeIf, closed, stepBy, stepIn, step, run, isEnded}
-use Rattle.machine.specs.Power.{highest}
+use Rattle.numbers.specs.Power.{highest}
 
 -- ---- step 4, and the ends
 

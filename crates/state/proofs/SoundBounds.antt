@@ -17,14 +17,12 @@ use Rattle.numbers.proofs.TestLaws.{all-at-most-at}
 use Rattle.function.specs.Function.{Function, rows}
 use Rattle.function.specs.Witness.{sideSum, countOf}
 use Rattle.function.proofs.WitnessLaws.{side-sum-term}
-use Rattle.table.specs.Gate.{weightLimit, inRange}
+use Rattle.function.specs.Gate.{weightLimit, inRange}
 use Rattle.types.specs.declared.state.State.{State}
 use Rattle.types.specs.declared.stage.Stage.{Stage}
 use Rattle.types.specs.declared.stage.Stage.the-variants.{Open, Found, Looped, Binate}
-use Rattle.types.specs.declared.table.Table.{Table}
-use Rattle.table.specs.Table.{functionOf}
 use Rattle.state.specs.Sound.{cap, Ranged, Traced, SoundIn, Sound}
-use Rattle.machine.proofs.RangeLaws.{InRange, in-range-correct, in-range-at}
+use Rattle.function.proofs.RangeLaws.{InRange, in-range-correct, in-range-at}
 
 -- the count of a row of a traced state is at most K − M
 pub traced-count : {f : Function} {x : State} → Traced f x → (r : ℕ) → r < rows f → countOf (x .counts) r + x .mark ≤ x .k
@@ -86,10 +84,13 @@ module _ {f : Function} {x : State} (s : Sound f x) where
       by (yes h) = omega (arith, sound-past r h)
       by (no h) = omega (arith, traced-count (sound-traced n) r (omega arith))
 
--- on a table v and s lie within ±K
-module _ (t : Table) {x : State} (s : Sound (functionOf t) x) where
-  pub table-current : Ranged (x .k) (t .n) (x .v)
-  table-current = rw (one-mul (x .k)) at (s .current)
+-- where the top level is 1, v and s lie within ±K
+module _ {f : Function} (one : f .top ≡ 1) {x : State} (s : Sound f x) where
+  unit : f .top * x .k ≡ x .k
+  unit = ap (λ (top : ℕ). top * x .k) one ∙ one-mul (x .k)
 
-  pub table-copied : Ranged (x .k) (t .n) (x .s)
-  table-copied = rw (one-mul (x .k)) at (s .copied)
+  pub unit-current : Ranged (x .k) (f .places) (x .v)
+  unit-current = subst (λ (limit : ℕ). Ranged limit (f .places) (x .v)) unit (s .current)
+
+  pub unit-copied : Ranged (x .k) (f .places) (x .s)
+  unit-copied = subst (λ (limit : ℕ). Ranged limit (f .places) (x .s)) unit (s .copied)

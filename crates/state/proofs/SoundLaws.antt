@@ -12,8 +12,8 @@ use lib.IntN.{ℤ, pos, _+ℤ_}
 use borrow.Author.Tests.{leb-true, le-leb, eqb-true, eq-eqb}
 use Rattle.numbers.specs.Tests.{allAtMost, allBelow, isSome, sameZ}
 use Rattle.numbers.proofs.TestLaws.{no-true, and-left, and-right, and-both, where-passed, all-below-at, all-below-from, same-z-correct}
-use Rattle.table.specs.Witness.{sameCounts}
-use Rattle.table.proofs.WitnessLaws.{same-counts-correct}
+use Rattle.function.specs.Witness.{sameCounts}
+use Rattle.function.proofs.CountLaws.{same-counts-correct}
 use Rattle.types.specs.declared.state.State.{State}
 use Rattle.types.specs.declared.stage.Stage.{Stage}
 use Rattle.types.specs.declared.stage.Stage.the-variants.{Open, Found, Looped, Binate}

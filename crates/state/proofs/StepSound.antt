@@ -23,13 +23,13 @@ use Rattle.function.specs.Witness.{countOf, zeros}
 use Rattle.function.specs.Failing.{failing}
 use Rattle.function.specs.Vector.{sign, sameVector}
 use Rattle.state.specs.Machine.{corrected, withStage, markIf, marked, settled, closed, step}
-use Rattle.machine.specs.Power.{highest}
+use Rattle.numbers.specs.Power.{highest}
 use Rattle.state.specs.Sound.{cap, Shaped, Traced, NotBinate, markFor, SoundIn, Sound}
-use Rattle.machine.proofs.HighestLaws.{highest-suc}
+use Rattle.numbers.proofs.PowerLaws.{highest-suc}
 use Rattle.function.proofs.FunctionLaws.{level-below, level-none, cared-apart}
 use Rattle.function.proofs.VectorLaws.{same-vector-correct, corrected-threshold, length-corrected}
 use Rattle.function.proofs.CountLaws.{length-one-more, one-more-other, getD-zeros}
-use Rattle.machine.proofs.RangeLaws.{InRange, in-range-correct, in-range-wider, corrected-in-range}
+use Rattle.function.proofs.RangeLaws.{InRange, in-range-correct, in-range-wider, corrected-in-range}
 use Rattle.state.proofs.SoundBounds.{sound-in, sound-current, sound-copied}
 use Rattle.function.proofs.FailingLaws.{failing-some, fails-cared}
 use Rattle.state.proofs.MachineLaws.{corrected-is, closed-looped, closed-on, marked-power, marked-other, settled-found, settled-open, step-open}

@@ -13,7 +13,7 @@ use Rattle.function.specs.Function.{Function, levels}
 use Rattle.function.specs.Vector.{correctedBy, sameVector, zeroVector}
 use Rattle.function.specs.Failing.{failing}
 use Rattle.function.specs.Binate.{binatePlace, binateCounts}
-use Rattle.machine.specs.Power.{highest}
+use Rattle.numbers.specs.Power.{highest}
 
 -- ---- fresh
 

@@ -13,13 +13,12 @@ use Rattle.types.specs.declared.stage.Stage.{Stage}
 use Rattle.types.specs.declared.stage.Stage.the-variants.{Open, Found, Looped, Binate}
 use Rattle.types.specs.declared.state.State.{State}
 use Rattle.function.specs.Function.{Function, rows}
-use Rattle.function.specs.Witness.{sideSum, countOf, countsCared}
+use Rattle.function.specs.Gate.{inRange}
+use Rattle.function.specs.Witness.{sideSum, countOf, countsCared, sameCounts}
 use Rattle.function.specs.Failing.{failing}
 use Rattle.function.specs.Vector.{sameVector, zeroVector, component}
 use Rattle.function.specs.Binate.{binatePlace, binateCounts}
-use Rattle.table.specs.Gate.{inRange}
-use Rattle.table.specs.Witness.{sameCounts}
-use Rattle.machine.specs.Power.{highest}
+use Rattle.numbers.specs.Power.{highest}
 
 -- the most corrections of a job
 abbrev pub cap : ℕ

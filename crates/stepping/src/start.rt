@@ -31,7 +31,7 @@ pub fn fresh_state(table: Table) -> State
     requires { ⌜ table .n ≤ 8 ⌝ }
     ensures { λ r. ⌜ r ≡ fresh (functionOf table) ⌝ }
 {
-    let Lowest::Row(place) = binate_place(table) else {
+    let Lowest::At(place) = binate_place(table) else {
         return start_state([0u32; 256], Stage::Open);
     };
     start_state(binate_counts(table, place), Stage::Binate)

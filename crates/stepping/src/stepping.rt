@@ -66,7 +66,7 @@ fn plain_steps(table: Table, state: State, budget: u32) -> State
     let mut next = first_failing(&mut distances, &values, table, j.v);
     let mut made: u32 = 0;
     while made < budget {
-        let Lowest::Row(row) = next else {
+        let Lowest::At(row) = next else {
             return with_stage(j, Stage::Found);
         };
         let v = corrected_by(j.v, values[row], row);
@@ -84,7 +84,7 @@ fn plain_steps(table: Table, state: State, budget: u32) -> State
         next = first_failing(&mut distances, &values, table, j.v);
         made = made + 1;
     }
-    if let Lowest::Row(_) = next {
+    if let Lowest::At(_) = next {
         j
     } else {
         with_stage(j, Stage::Found)

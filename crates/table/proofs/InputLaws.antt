@@ -5,14 +5,14 @@ use mathlib.Core.Option.{Option, some, none}
 use Prim.Native.Nat.{ℕ, _+_, _^_, _≤_, _<_}
 use native.Mathlib.Omega.{arith}
 use borrow.Author.Tests.{lt-ltb, le-ltb}
-use Rattle.table.specs.declared.inputs.Lowest.the-variants.{Row, Nowhere}
+use Rattle.table.specs.declared.inputs.Lowest.the-variants.{At, Nowhere}
 use Rattle.numbers.specs.Tests.{sameBool, isSome}
 use Rattle.numbers.proofs.TestLaws.{same-bool-beq}
 use Rattle.types.specs.declared.table.Table.{Table}
 use Rattle.types.specs.declared.inputs.InputKind.the-variants.{Idle}
 use Rattle.table.specs.Table.{value, functionOf}
 use Rattle.function.specs.Function.{level}
-use Rattle.table.specs.Inputs.{lowestOf, isRow, kindBy, inputKindAt}
+use Rattle.table.specs.Inputs.{lowestOf, isFound, kindBy, inputKindAt}
 use Rattle.function.specs.Turns.{turnsAt, firstTurn}
 
 -- a value that code read is on a side as the code's comparison says
@@ -40,23 +40,23 @@ module _ (t : Table) (to : Bool) (place : ℕ) where
 -- ---- kinds
 
 -- a row that is answered is somewhere
-pub row-somewhere : {r : ℕ} → Row r ≡ Nowhere → ⊥
-row-somewhere e = let z : _≡_ {A = ℕ} 0 1 = cc in omega arith
+pub at-somewhere : {r : ℕ} → At r ≡ Nowhere → ⊥
+at-somewhere e = let z : _≡_ {A = ℕ} 0 1 = cc in omega arith
 
 -- a search that code answers with a row has found it
-pub lowest-some : (o : Option ℕ) (r : ℕ) → lowestOf o ≡ Row r → o ≡ some r
-lowest-some none r e = absurd (row-somewhere (sym e))
+pub lowest-some : (o : Option ℕ) (r : ℕ) → lowestOf o ≡ At r → o ≡ some r
+lowest-some none r e = absurd (at-somewhere (sym e))
 lowest-some (some q) r e = cc
 
 -- one that it answers with nowhere has found nothing
 pub lowest-none : (o : Option ℕ) → lowestOf o ≡ Nowhere → o ≡ none
 lowest-none none e = refl
-lowest-none (some q) e = absurd (row-somewhere e)
+lowest-none (some q) e = absurd (at-somewhere e)
 
 -- a search is answered with a row exactly if it has found one
-pub is-row-lowest : (o : Option ℕ) → isRow (lowestOf o) ≡ isSome o
-is-row-lowest none = refl
-is-row-lowest (some r) = refl
+pub is-found-lowest : (o : Option ℕ) → isFound (lowestOf o) ≡ isSome o
+is-found-lowest none = refl
+is-found-lowest (some r) = refl
 
 -- the kind of an input of the table, by its two searches
 pub input-kind-at-inside : (t : Table) (place : ℕ) → place < t .n → inputKindAt t place ≡ kindBy (isSome (firstTurn (functionOf t) true place)) (isSome (firstTurn (functionOf t) false place))

@@ -4,7 +4,5 @@ pub mod TableLaws
 pub mod OnTables
 -- the four counts of a binate input
 pub mod BinateRows
--- the test that two arrays are the same, and its meaning
-pub mod WitnessLaws
 -- the rows in which an input of a table turns the value, and its kind
 pub mod InputLaws

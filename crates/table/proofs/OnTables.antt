@@ -5,6 +5,7 @@ use mathlib.Core.Path.{_≡_, refl, sym, _∙_, ap}
 use mathlib.Core.Logic.{_↔_}
 use mathlib.Core.Bool.{Bool, true, false, not, cond, _&&_}
 use mathlib.Core.List.{List}
+use mathlib.Core.Option.{some}
 use Prim.Native.Nat.{ℕ, zero, suc, _+_, _*_, _^_, _≤_, _<_}
 use native.Mathlib.Nat.{mul-zero, mul-one}
 use native.Mathlib.Omega.{arith}
@@ -12,8 +13,9 @@ use borrow.Author.Tests.{le-ltb, ne-eqb}
 use lib.Dec.{eqb, ltb}
 use lib.ListN.{length, getD}
 use lib.IntN.{ℤ, pos, negsuc, _+ℤ_, _*ℤ_, +ℤ-idr, zero-*ℤ}
+use lib.Pow.{pow-pos}
 use lib.Signed.{ltZ}
-use Rattle.numbers.specs.Sum.{sumBelow}
+use Rattle.numbers.specs.Sum.{sumBelow, weightedSum}
 use Rattle.numbers.specs.Tests.{sameBool, allBelow}
 use Rattle.numbers.proofs.TestLaws.{no-true, all-below-from}
 use Rattle.numbers.proofs.Ring.{*ℤ-idl}
@@ -24,9 +26,9 @@ use Rattle.function.specs.Function.{level}
 use Rattle.function.specs.Gate.{distance, gateTrue, Realises, realises}
 use Rattle.function.specs.Witness.{onlyIf, sideSum, Balances, countsCared}
 use Rattle.function.specs.Turns.{turnsAt}
-use Rattle.function.specs.Failing.{margin, fails}
-use Rattle.function.specs.Vector.{sign, correctedBy}
-use Rattle.function.proofs.FailingLaws.{above-below}
+use Rattle.function.specs.Failing.{margin, fails, failing}
+use Rattle.function.specs.Vector.{sign, correctedBy, zeroVector}
+use Rattle.function.proofs.FailingLaws.{above-below, failing-at}
 use Rattle.function.proofs.VectorLaws.{corrected-weights, getD-add-levels}
 use Rattle.function.proofs.WitnessLaws.{sideTerm, side-sum-terms}
 use Rattle.table.specs.Table.{rows, value, functionOf}
@@ -118,3 +120,23 @@ module _ (t : Table) where
       ap (λ (l : List ℤ). getD l place (pos 0)) (corrected-weights (value t r) (level 2 r) v)
       ∙ getD-add-levels (sign (value t r)) (level 2 r) (v .a) place h
       ∙ level-adds (getD (v .a) place (pos 0)) (sign (value t r)) (level 2 r place) (level-lt r place)
+
+-- ---- the vector 0
+
+-- row 0 fails at the vector 0
+zero-fails : (t : Table) → fails (functionOf t) zeroVector 0 ≡ true
+unfolding fails distance weightedSum
+zero-fails t = by (value t 0)
+  where
+    by : (y : Bool) → ltZ (margin y (pos 0)) (pos 1) ≡ true
+    by true = refl
+    by false = refl
+
+-- so it is the lowest failing row
+pub zero-failing : (t : Table) → failing (functionOf t) zeroVector ≡ some 0
+zero-failing t = failing-at (functionOf t) zeroVector 0 (record {
+  start = omega arith;
+  inside = omega (arith, pow-pos (t .n));
+  passes = zero-fails t;
+  before = λ p l k. absurd (omega arith);
+})

@@ -12,18 +12,18 @@ use Rattle.types.specs.declared.inputs.InputKind.{InputKind}
 use Rattle.types.specs.declared.inputs.InputKind.the-variants.{Idle, Rising, Falling, Binate}
 use Rattle.types.specs.declared.inputs.Place.{Place}
 use Rattle.table.specs.declared.inputs.Lowest.{Lowest}
-use Rattle.table.specs.declared.inputs.Lowest.the-variants.{Row, Nowhere}
+use Rattle.table.specs.declared.inputs.Lowest.the-variants.{At, Nowhere}
 use Rattle.table.specs.Table.{functionOf}
 use Rattle.function.specs.Turns.{firstTurn}
 
 -- the enum that code answers a search for the lowest with
 abbrev pub lowestOf : Option ℕ → Lowest
 lowestOf none = Nowhere
-lowestOf (some r) = Row r
+lowestOf (some r) = At r
 
-abbrev pub isRow : Lowest → Bool
-isRow Nowhere = false
-isRow (Row r) = true
+abbrev pub isFound : Lowest → Bool
+isFound Nowhere = false
+isFound (At r) = true
 
 -- an input's kind, by whether it rises somewhere and whether it falls somewhere. The field's terms: inessential, positive unate,
 -- negative unate, binate

@@ -1,10 +1,10 @@
 -- A truth table: its rows, its value on a row, its function, and the bits that must be 0 (document 01, "Table, gate, witness").
 -- Definitions only. Assumes nothing.
 use mathlib.Core.Bool.{Bool, true, not, _||_}
-use mathlib.Core.List.{List}
-use Prim.Native.Nat.{ℕ, _+_, _/_, _%_, _^_}
+use mathlib.Core.List.{List, _++_}
+use Prim.Native.Nat.{ℕ, _+_, _-_, _/_, _%_, _^_}
 use lib.Dec.{eqb, ltb}
-use lib.ListN.{getD, drop}
+use lib.ListN.{length, getD, drop, replicate}
 use Rattle.numbers.specs.Tests.{allAtMost}
 use Rattle.types.specs.declared.table.Table.{Table}
 use Rattle.function.specs.Function.{Function}
@@ -32,9 +32,16 @@ value t r = bitAt (t .bytes) r
 abbrev pub functionOf : Table → Function
 functionOf t = record { places = t .n; top = 1; value = value t; cared = λ r. true }
 
--- the bytes of a table of n inputs
+-- how many bytes the bits of so many rows take, and the bytes of a table of n inputs
+abbrev pub bitBytes : ℕ → ℕ
+bitBytes rows = (rows + 7) / 8
+
 abbrev pub byteCount : ℕ → ℕ
-byteCount n = (rowsOf n + 7) / 8
+byteCount n = bitBytes (rowsOf n)
+
+-- an array of m places: those that are not given hold x
+abbrev pub padded : {A : Type 0} → ℕ → A → List A → List A
+padded m x xs = xs ++ replicate (m - length xs) x
 
 -- refusal 3: a spare bit of the first byte is set (three inputs and more have none), or a byte past the table's length is not 0
 unfoldable pub spareSet : ℕ → List ℕ → Bool

@@ -57,7 +57,7 @@ pub fn gate_realises(table: Table, gate: Gate) -> bool
 pub const WEIGHT_LIMIT: u32 = 1_000_000;
 
 // Whether x lies within ±limit.
-fn is_within(x: i32, limit: u32) -> bool
+pub fn is_within(x: i32, limit: u32) -> bool
     ensures { λ r. ⌜ r ≡ within limit x ⌝ }
 {
     let most = limit as i64;

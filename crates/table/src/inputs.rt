@@ -6,13 +6,13 @@ use types::inputs::Place;
 use types::table::Table;
 ghost use mathlib.Core.Path.{_≡_};
 ghost use Prim.Native.Nat.{_≤_, _<_};
-ghost use Rattle.table.specs.Inputs.{lowestOf, isRow, kindBy, inputKindAt, kindsOf};
+ghost use Rattle.table.specs.Inputs.{lowestOf, isFound, kindBy, inputKindAt, kindsOf};
 ghost use Rattle.function.specs.Turns.{turnsAt, firstTurn};
 ghost use Rattle.table.specs.Table.{functionOf};
 
-// The lowest that a search finds: a row, or the place of an input.
+// The lowest number that a search finds, of a row or of a place.
 pub enum Lowest {
-    Row(usize),
+    At(usize),
     Nowhere,
 }
 
@@ -40,19 +40,19 @@ pub fn first_turn(table: Table, to: bool, place: usize) -> Lowest
     let mut row: usize = 0;
     while row < rows {
         if turns_at(table, to, place, row) {
-            return Lowest::Row(row);
+            return Lowest::At(row);
         }
         row = row + 1;
     }
     Lowest::Nowhere
 }
 
-// Whether a search found a row.
-pub fn is_row(answer: Lowest) -> bool
-    ensures { λ r. ⌜ r ≡ isRow answer ⌝ }
+// Whether a search found one.
+pub fn is_found(answer: Lowest) -> bool
+    ensures { λ r. ⌜ r ≡ isFound answer ⌝ }
 {
     match answer {
-        Lowest::Row(_) => true,
+        Lowest::At(_) => true,
         Lowest::Nowhere => false,
     }
 }
@@ -84,8 +84,8 @@ pub fn input_kind_at(table: Table, place: usize) -> InputKind
     if (table.n as usize) <= place {
         return InputKind::Idle;
     }
-    let rises = is_row(first_turn(table, true, place));
-    let falls = is_row(first_turn(table, false, place));
+    let rises = is_found(first_turn(table, true, place));
+    let falls = is_found(first_turn(table, false, place));
     kind_by(rises, falls)
 }
 

@@ -6,7 +6,8 @@ ghost use mathlib.Core.Path.{_≡_};
 ghost use Prim.Native.Nat.{_≤_};
 ghost use lib.ListN.{drop};
 ghost use Rattle.numbers.specs.Tests.{allAtMost};
-ghost use Rattle.table.specs.Witness.{sameCounts, unfit};
+ghost use Rattle.function.specs.Witness.{sameCounts};
+ghost use Rattle.table.specs.Witness.{unfit};
 
 // A count lies in 0 to this limit.
 pub const COUNT_LIMIT: u32 = 1_000_000;

@@ -7,6 +7,9 @@ use types::stage::Stage;
 use types::state::State;
 use types::table::Table;
 use types::vector::Vector;
+ghost use mathlib.Core.Path.{_≡_};
+ghost use mathlib.Core.Logic.{_↔_};
+ghost use mathlib.Core.Bool.{true};
 
 // Returns the letter of a stage.
 pub fn letter(stage: Stage) -> u8 {
@@ -19,7 +22,9 @@ pub fn letter(stage: Stage) -> u8 {
 }
 
 // Whether the bytes are the same.
-fn same_bytes(x: [u8; 32], y: [u8; 32]) -> bool {
+fn same_bytes(x: [u8; 32], y: [u8; 32]) -> bool
+    ensures { λ r. ⌜ r ≡ true ↔ x ≡ y ⌝ }
+{
     let mut at: usize = 0;
     while at < 32 {
         if x[at] != y[at] {
@@ -31,7 +36,9 @@ fn same_bytes(x: [u8; 32], y: [u8; 32]) -> bool {
 }
 
 // Whether the tables are the same.
-pub fn same_table(x: Table, y: Table) -> bool {
+pub fn same_table(x: Table, y: Table) -> bool
+    ensures { λ r. ⌜ r ≡ true ↔ x ≡ y ⌝ }
+{
     let x_bytes = x.bytes;
     let y_bytes = y.bytes;
     x.n == y.n && same_bytes(x_bytes, y_bytes)

@@ -1,7 +1,7 @@
 -- The digits of a number: of one below ten, of any other, and how many there are; a text that is written from its end; and texts in turn,
 -- as a loop writes them. Assumes nothing.
 use mathlib.Core.Path.{_≡_, refl, sym, _∙_, ap}
-use mathlib.Core.Bool.{Bool, true, false}
+use mathlib.Core.Bool.{Bool, true, false, cond}
 use mathlib.Core.List.{List, [], _∷_, _++_, append-assoc, append-nil}
 use Prim.Native.Nat.{ℕ, zero, suc, _+_, _/_, _%_, _^_, _≤_, _<_}
 use native.Mathlib.Nat.{add-zero, zero-add, add-suc, suc-add, add-assoc}
@@ -11,7 +11,6 @@ use lib.ListN.{length, take, drop, length-append}
 use lib.Seq.{length-take-le, take-append-le, take-take, drop-at}
 use borrow.Author.Tests.{ltb-true, ltb-false, lt-ltb, le-ltb}
 use Rattle.codec.specs.Written.{writtenAt}
-use Rattle.codec.specs.Number.{pickBytes}
 use Rattle.text.specs.Text.{digits, decimal}
 
 -- ---- digits
@@ -54,7 +53,7 @@ digits-step : (most x n : ℕ) → length (digits most (x / 10)) ≤ n → lengt
 unfolding digits
 digits-step most x n h = by (ltb x 10)
   where
-    by : (t : Bool) → length (pickBytes t ((48 + x) ∷ []) (digits most (x / 10) ++ ((48 + x % 10) ∷ []))) ≤ suc n
+    by : (t : Bool) → length (cond t ((48 + x) ∷ []) (digits most (x / 10) ++ ((48 + x % 10) ∷ []))) ≤ suc n
     by true = omega arith
     by false = rw length-append (omega arith)
 
@@ -84,7 +83,7 @@ pub decimal-some : (x : ℕ) → 1 ≤ length (decimal x)
 unfolding decimal digits
 decimal-some x = by (ltb x 10)
   where
-    by : (t : Bool) → 1 ≤ length (pickBytes t ((48 + x) ∷ []) (digits 19 (x / 10) ++ ((48 + x % 10) ∷ [])))
+    by : (t : Bool) → 1 ≤ length (cond t ((48 + x) ∷ []) (digits 19 (x / 10) ++ ((48 + x % 10) ∷ [])))
     by true = omega arith
     by false = rw length-append (omega arith)
 

@@ -1,14 +1,14 @@
 -- Numbers and fields as text (document 01, "Kinds, Chow, report"). Definitions only. Assumes nothing.
+use mathlib.Core.Bool.{cond}
 use mathlib.Core.List.{List, [], _∷_, _++_}
 use Prim.Native.Nat.{ℕ, zero, suc, _+_, _/_, _%_}
 use lib.Dec.{ltb}
 use lib.IntN.{ℤ, pos, negsuc}
-use Rattle.codec.specs.Number.{pickBytes}
 
 -- the last digits of a number in base ten, at most so many, without leading zeros
 unfoldable pub digits : (most x : ℕ) → List ℕ
 digits zero x = []
-digits (suc most) x = let higher = digits most (x / 10) in pickBytes (ltb x 10) ((48 + x) ∷ []) (higher ++ ((48 + x % 10) ∷ []))
+digits (suc most) x = let higher = digits most (x / 10) in cond (ltb x 10) ((48 + x) ∷ []) (higher ++ ((48 + x % 10) ∷ []))
 
 -- a number in base ten: 20 digits hold every number of 64 bits
 unfoldable pub decimal : ℕ → List ℕ

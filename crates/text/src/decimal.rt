@@ -1,7 +1,7 @@
 // A number in base ten, written into a lent buffer at a position. The function returns the position after it, and all other bytes keep
 // their values.
 ghost use mathlib.Core.Path.{_≡_};
-ghost use Prim.Native.Nat.{_+_, _≤_};
+ghost use Prim.Native.Nat.{_+_};
 ghost use lib.ListN.{length};
 ghost use Rattle.codec.specs.Written.{Room, Put};
 ghost use Rattle.text.specs.Text.{decimal};

@@ -23,10 +23,10 @@ use Rattle.types.specs.declared.vector.Vector.{Vector}
 use Rattle.job.specs.declared.job.Job.{Job}
 use Rattle.types.specs.declared.stage.Stage.{Stage}
 use Rattle.types.specs.declared.stage.Stage.the-variants.{Found, Looped, Binate}
-use Rattle.machine.specs.Power.{highest}
+use Rattle.numbers.specs.Power.{highest}
 use Rattle.job.specs.Sound.{markFor, Sound}
 use Rattle.job.specs.Calls.{gateOf, witnessOf}
-use Rattle.machine.proofs.HighestLaws.{highest-le}
+use Rattle.numbers.proofs.PowerLaws.{highest-le}
 use Rattle.machine.proofs.RangeLaws.{in-range-correct, in-range-wider}
 use Rattle.job.proofs.SoundLaws.{sound-in, sound-current, sound-count, sound-past}
 use Rattle.types.specs.declared.state.State.{State}

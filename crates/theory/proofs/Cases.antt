@@ -13,7 +13,7 @@ use Rattle.function.specs.Vector.{addLevels, correctedBy, sameList, sameVector}
 use Rattle.state.specs.Machine.{corrected, marked, settled, closed, stepIn}
 use Rattle.state.specs.Machine as state
 use Rattle.job.specs.Machine.{run, fresh}
-use Rattle.machine.specs.Power.{highest}
+use Rattle.numbers.specs.Power.{highest}
 use Rattle.function.specs.Binate.{binateAt, binatePlace, binateCounts}
 use Rattle.state.specs.Sound.{isTraced, soundIn, isSound}
 use Rattle.theory.specs.Cases.{MarkedCases}

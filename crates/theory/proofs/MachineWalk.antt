@@ -23,7 +23,7 @@ use Rattle.function.specs.Vector.{correctedBy, sameVector, zeroVector, componen
 use Rattle.function.specs.Binate.{binatePlace}
 use Rattle.function.proofs.VectorLaws.{length-corrected, component-corrected}
 use Rattle.function.proofs.FailingLaws.{failing-some, fails-cared, fails-margin}
-use Rattle.machine.specs.Power.{highest}
+use Rattle.numbers.specs.Power.{highest}
 use Rattle.state.specs.Machine.{freshBy, fresh, markIf, marked, settleBy, corrected, settled, closeIf, closed, stepBy, stepIn, step, run}
 use Rattle.theory.proofs.Perceptron.{dot, Added, Walk, start, more}
 use Rattle.theory.proofs.Corrections.{correction, correction-dot}

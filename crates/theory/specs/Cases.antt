@@ -1,12 +1,13 @@
 -- The marked cases m1 to m10 (document 01, "Edges and marked cases"), one field for each. Definitions only. Assumes nothing.
 use mathlib.Core.Path.{_≡_}
 use mathlib.Core.Bool.{true, false}
-use mathlib.Core.List.{List, [], _∷_, _++_}
-use Prim.Native.Nat.{ℕ, _+_, _-_}
-use lib.ListN.{length, replicate, set}
+use mathlib.Core.List.{List, [], _∷_}
+use Prim.Native.Nat.{ℕ, _+_}
+use lib.ListN.{set}
 use lib.IntN.{ℤ, pos, negℤ}
 use Rattle.types.specs.declared.table.Table.{Table}
 use Rattle.types.specs.declared.gate.Gate.{Gate}
+use Rattle.table.specs.Table.{padded}
 use Rattle.cell.specs.Refusal.{answered, refused}
 use Rattle.cell.specs.Calls.{gateValue, checkWitness, chowParameters}
 use Rattle.job.specs.declared.job.Job.{Job}
@@ -18,10 +19,6 @@ use Rattle.job.specs.Sound.{isSound}
 use Rattle.job.specs.Calls.{carryOn}
 
 -- ---- arrays by what they hold first
-
--- m places; those that are not given hold x
-abbrev pub padded : {A : Type 0} → ℕ → A → List A → List A
-padded m x xs = xs ++ replicate (m - length xs) x
 
 -- n inputs, and the bytes of the rows
 abbrev pub table : ℕ → List ℕ → Table

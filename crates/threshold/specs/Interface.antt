@@ -14,7 +14,7 @@ use Rattle.records.specs.Record.{readRecord}
 use Rattle.records.specs.Calls.{asRead}
 use Rattle.results.specs.Result.{fitted, row, saidOf}
 use Rattle.certificates.specs.Certificate.{checkIn, kindIn, valueIn}
-use Rattle.inputs.specs.Inputs.{kindBytes, chowBytes}
+use Rattle.inputs.specs.Inputs.{inputBytes, chowBytes}
 use Rattle.outcome.specs.Outcome.{Handed, decidedBack, carriedBack}
 
 -- ---- what a call takes
@@ -66,7 +66,7 @@ valueOn s row = valueIn row (partsOf s)
 
 -- the kind of each of the eight inputs: 12
 abbrev pub kinds : List ℕ → ℕ → Answered (List ℕ)
-kinds s room = andThen (tableRead s) (λ t. fitted room (kindBytes (kindsOf t)))
+kinds s room = andThen (tableRead s) (λ t. fitted room (inputBytes (kindsOf t)))
 
 -- Chow's parameters of the eight inputs: 12
 abbrev pub chow : List ℕ → ℕ → Answered (List ℕ)

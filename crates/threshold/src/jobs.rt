@@ -1,5 +1,4 @@
 // The calls that run a job: a table is decided, and an open job is carried on.
-use cell::refusal::Status;
 use job::job::Job;
 use outcome::handed::carry_job;
 use outcome::handed::decide_table;

@@ -40,7 +40,7 @@ pub fn binate_place(table: Table) -> Lowest
     let mut place: usize = 0;
     while place < n {
         if binate_at(&words, place) {
-            return Lowest::Row(place);
+            return Lowest::At(place);
         }
         place = place + 1;
     }
@@ -52,7 +52,7 @@ fn add_pair(counts: &mut [u32; 256], place: usize, turn: Lowest)
     requires { ⌜ (place < 8) × ((row : ℕ) → turn ≡ lowestOf (some row) → row + 2 ^ place < 256) × ((row : ℕ) → getD (now counts) row 0 ≤ 2) ⌝ }
     ensures { λ _. ⌜ ((o : Option ℕ) → turn ≡ lowestOf o → now (counts .exit) ≡ pairMore 2 place o (now (counts .entry))) ⌝ }
 {
-    let Lowest::Row(row) = turn else {
+    let Lowest::At(row) = turn else {
         return;
     };
     counts[row] = counts[row] + 1;

@@ -12,7 +12,7 @@ use Rattle.types.specs.declared.gate.Gate.{Gate}
 use Rattle.table.specs.Table.{rows}
 use Rattle.table.specs.Gate.{weightLimit, inRange}
 use Rattle.table.proofs.TableLaws.{rows-le}
-use Rattle.cell.specs.Refusal.{Rule, rule, Answered, answered, checked, NoneBroken, also}
+use Rattle.cell.specs.Refusal.{Rule, rule, Answered, answered, checked, NoneBroken}
 use Rattle.cell.specs.Calls.{tableRules}
 use Rattle.cell.proofs.RefusalLaws.{answered-none-broken}
 use Rattle.cell.proofs.TableChecked.{kept-inputs, table-kept}
@@ -20,10 +20,10 @@ use Rattle.types.specs.declared.vector.Vector.{Vector}
 use Rattle.job.specs.declared.job.Job.{Job}
 use Rattle.types.specs.declared.stage.Stage.{Stage}
 use Rattle.types.specs.declared.stage.Stage.the-variants.{Open}
-use Rattle.machine.specs.Power.{highest}
+use Rattle.numbers.specs.Power.{highest}
 use Rattle.job.specs.Sound.{Sound, isSound, markFor}
 use Rattle.job.proofs.SoundLaws.{is-sound-correct}
-use Rattle.job.proofs.JobChecked.{kept-sound, job-others-kept}
+use Rattle.job.proofs.JobChecked.{kept-sound}
 use Rattle.codec.specs.Field.{field, Reading, onward}
 use Rattle.codec.specs.Number.{numberBytes}
 use Rattle.codec.specs.VectorField.{vectorBytes, vectorAt}
@@ -36,16 +36,12 @@ use Rattle.codec.proofs.VectorFieldLaws.{vector-read}
 use Rattle.codec.proofs.RowListRead.{rows-read}
 use Rattle.codec.proofs.KindLaws.{every-taken, kind-read}
 use Rattle.codec.proofs.TableFieldLaws.{table-read}
-use Rattle.records.specs.Record.{Record, ofTable, ofGate, ofWitness, ofJob, family, gateVector, vectorGate, jobBytes, recordBytes, openJob, unsoundJob, countsAt, jobAt, bodyAt, bytesLeft, recordAt, readRecord}
-use Rattle.writers.specs.Calls.{hasEnded, tooShort, recordRules, writeRecord}
-use Rattle.job.proofs.MachineLaws.{open-stage}
-use Rattle.writers.proofs.RecordParts.{Held, tableIn, restBytes, record-parts, restAt, body-is, same-inputs, gate-in-limits, witness-fits, savable}
+use Rattle.records.specs.Record.{Record, ofTable, ofGate, ofWitness, ofJob, family, gateVector, vectorGate, jobBytes, recordBytes, openJob, unsoundJob, countsAt, jobAt, restAt, bodyAt, bytesLeft, recordAt, singleAt, readRecord}
+use Rattle.writers.specs.Calls.{tooShort, recordRules, writeRecord}
+use Rattle.bodies.proofs.RecordParts.{Held, tableIn, restBytes, record-parts, body-is, same-inputs, gate-in-limits, witness-fits, savable}
+use Rattle.writers.proofs.KeptLaws.{kept-open}
 
 -- ---- read after write
-
--- a job that has not ended is open
-is-open : (j : Job) {others : List Rule} → NoneBroken (hasEnded j ∷ others) → j .state .stage ≡ Open
-is-open j (also b rest) = open-stage (j .state .stage) b
 
 -- a gate comes back from its vector, and a sound open job from its numbers
 gate-back : (n : ℕ) (g : Gate) → g .n ≡ n → vectorGate n (gateVector g) ≡ g
@@ -91,7 +87,6 @@ module _ (j : Job) (few : j .table .n ≤ 8) (sound : Sound j) (opened : j .stat
 -- what follows the table, read where it stands
 rest-read : (x : Record) (others : List Rule) → Held x → NoneBroken (recordRules x others) → (s : List ℕ) (at : ℕ) → Stands s at (restBytes x)
     → restAt (family x) (tableIn x) s at ≡ answered (field x (at + length (restBytes x)))
-unfolding restAt tableIn restBytes
 rest-read (ofTable t) others held kept s at stands = ap (λ (next : ℕ). answered (field (ofTable t) next)) (omega arith)
 rest-read (ofGate t g) others (long, eight) kept s at stands =
     let same = same-inputs t g kept in
@@ -103,17 +98,15 @@ rest-read (ofWitness t w) others (long, full) kept s at stands =
     let fit = witness-fits t w kept in
     ap (λ (r : Reading RowList). onward r (λ list next. answered (field (ofWitness t (record { counts = list .counts })) next)))
     (rows-read true (rows t) (w .counts) s at (rows-le (kept-inputs t kept)) full (fit .limit) (fit .past) (λ e. fit .some) stands)
-rest-read (ofJob j) others held kept s at stands = job-read j (kept-inputs (j .table) kept) (kept-sound j kept) (is-open j (job-others-kept j kept)) s at stands
+rest-read (ofJob j) others held kept s at stands = job-read j (kept-inputs (j .table) kept) (kept-sound j kept) (kept-open j others kept) s at stands
 
 table-taken : (x : Record) (others : List Rule) → NoneBroken (recordRules x others) → NoneBroken (tableRules (tableIn x) [])
-unfolding tableIn
 table-taken (ofTable t) others kept = table-kept t kept
 table-taken (ofGate t g) others kept = table-kept t (same-inputs t g kept .1)
 table-taken (ofWitness t w) others kept = table-kept t kept
 table-taken (ofJob j) others kept = table-kept (j .table) kept
 
 table-held : (x : Record) → Held x → length (tableIn x .bytes) ≡ 32
-unfolding tableIn
 table-held (ofTable t) held = held
 table-held (ofGate t g) held = held .0
 table-held (ofWitness t w) held = held .0
@@ -121,7 +114,7 @@ table-held (ofJob j) held = held
 
 -- a record's bytes, alone, are read as the record
 record-read : (x : Record) (others : List Rule) → Held x → NoneBroken (recordRules x others) → readRecord (recordBytes x) ≡ answered x
-unfolding recordAt
+unfolding recordAt singleAt
 record-read x others held kept =
     let s = recordBytes x in
     let f = family x in
@@ -136,7 +129,7 @@ record-read x others held kept =
     let second = table-read t s (0 + 1) (table-taken x others kept) (table-held x held) (omega (arith, inside .0)) (stands-front s (0 + 1) table rest back) in
     let third = rest-read x others held kept s (0 + 1 + length table) (stands-back s (0 + 1) table rest back) in
     let whole : length s ≡ 1 + (length table + length rest) = omega (arith, ap length (record-parts x), length-append table rest) in
-    ap (λ (r : Reading Family). onward r (λ g p. onward (bodyAt g s p) (ended s))) first
+    ap (λ (r : Reading Family). onward (onward r (λ g p. bodyAt g s p)) (ended s)) first
     ∙ ap (λ (r : Reading Record). onward r (ended s)) (body-is f s (0 + 1) ∙ ap (λ (r : Reading Table). onward r (λ u p. restAt f u s p)) second ∙ third)
     ∙ ap (λ (b : Bool). checked (rule 6 b ∷ []) (answered x)) (le-ltb (0 + 1 + length table + length rest) (length s) (omega arith))
   where

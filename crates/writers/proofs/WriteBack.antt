@@ -33,9 +33,9 @@ use Rattle.codec.proofs.VectorFieldLaws.{vector-written}
 use Rattle.codec.proofs.RowListWritten.{rows-written, strict-kept}
 use Rattle.codec.proofs.KindLaws.{KindRead, kind-written}
 use Rattle.codec.proofs.TableFieldLaws.{TableRead, table-written}
-use Rattle.records.specs.Record.{Record, ofTable, ofGate, ofWitness, ofJob, family, vectorGate, recordBytes, gateAt, witnessAt, openJob, unsoundJob, jobAt, bodyAt, recordAt, readRecord}
+use Rattle.records.specs.Record.{Record, ofTable, ofGate, ofWitness, ofJob, family, vectorGate, recordBytes, gateAt, witnessAt, openJob, unsoundJob, jobAt, restAt, bodyAt, recordAt, singleAt, readRecord}
 use Rattle.writers.specs.Calls.{tooShort, recordRules, writeRecord}
-use Rattle.writers.proofs.RecordParts.{tableIn, restBytes, record-parts, restAt, body-is, fit-from}
+use Rattle.bodies.proofs.RecordParts.{tableIn, restBytes, record-parts, body-is, fit-from}
 
 -- ---- write after read
 
@@ -50,13 +50,11 @@ record RestRead (f : Family) (t : Table) (s : List ℕ) (at : ℕ) (b : Field Re
 
 module _ (t : Table) (s : List ℕ) (bytes : AllBytes s) (taken : NoneBroken (tableRules t [])) where
   table-body : (at : ℕ) (b : Field Record) → answered (field (ofTable t) at) ≡ answered b → RestRead tables t s at b
-  unfolding tableIn restBytes
   table-body at b e =
       let same : field (ofTable t) at ≡ b = cc in
       subst (RestRead tables t s at) same (record { same-family = refl; same-table = refl; stands = stands-nil s at; next = omega arith; rules = λ others kept. all-kept t taken kept })
 
   gate-body : (at : ℕ) (b : Field Record) → gateAt t s at ≡ answered b → RestRead gates t s at b
-  unfolding tableIn restBytes
   gate-body at b e =
       let parts = onward-answered (vectorAt true (t .n) s at) _ b e in
       let f = parts .0 in
@@ -71,7 +69,7 @@ module _ (t : Table) (s : List ℕ) (bytes : AllBytes s) (taken : NoneBroken (ta
       })
 
   witness-body : (at : ℕ) (b : Field Record) → witnessAt t s at ≡ answered b → RestRead witnesses t s at b
-  unfolding tableIn restBytes unfit
+  unfolding unfit
   witness-body at b e =
       let parts = onward-answered (rowListAt true (rows t) s at) _ b e in
       let f = parts .0 in
@@ -90,7 +88,6 @@ module _ (t : Table) (s : List ℕ) (bytes : AllBytes s) (taken : NoneBroken (ta
       → vectorAt false (t .n) s (v .next) ≡ answered w → rowListAt false (rows t) s (w .next) ≡ answered list → list .value .kept ≡ true
       → isSound (openJob t (k .value) (v .value) (w .value) (list .value .counts)) ≡ true
       → RestRead jobs t s at (field (ofJob (openJob t (k .value) (v .value) (w .value) (list .value .counts))) (list .next))
-  unfolding tableIn restBytes
   job-fields at k v w list ek ev ew el kept sound =
       let few = kept-inputs t taken in
       let number = number-written s at k bytes ek in
@@ -128,7 +125,6 @@ module _ (t : Table) (s : List ℕ) (bytes : AllBytes s) (taken : NoneBroken (ta
 
   -- by the family
   rest-written : (f : Family) (at : ℕ) (b : Field Record) → restAt f t s at ≡ answered b → RestRead f t s at b
-  unfolding restAt
   rest-written tables at b e = table-body at b e
   rest-written gates at b e = gate-body at b e
   rest-written witnesses at b e = witness-body at b e
@@ -149,12 +145,12 @@ record-written s x k t b kind table rest ends e =
 
 -- writing what was read gives the same bytes
 pub write-back : (s : List ℕ) → AllBytes s → (x : Record) → readRecord s ≡ answered x → (room : ℕ) → length s ≤ room → writeRecord x room ≡ answered s
-unfolding recordAt
+unfolding recordAt singleAt
 write-back s bytes x e room h =
-    let (k, ek, e₁) = onward-answered (kindAt everyFamily s 0) _ x e in
-    let (b, eb, e₂) = onward-answered (bodyAt (k .value) s (k .next)) _ x e₁ in
-    let ended = checked-answered 6 (ltb (b .next) (length s)) (b .value) x e₂ in
-    let (t, et, er) = onward-answered (tableAt s (k .next)) (λ u p. restAt (k .value) u s p) b (sym (body-is (k .value) s (k .next)) ∙ eb) in
+    let (b, eb, e₁) = onward-answered (recordAt everyFamily s 0) _ x e in
+    let (k, ek, e₂) = onward-answered (kindAt everyFamily s 0) (λ f p. bodyAt f s p) b eb in
+    let ended = checked-answered 6 (ltb (b .next) (length s)) (b .value) x e₁ in
+    let (t, et, er) = onward-answered (tableAt s (k .next)) (λ u p. restAt (k .value) u s p) b (sym (body-is (k .value) s (k .next)) ∙ e₂) in
     let kind = kind-written everyFamily s 0 k ek in
     let table = table-written s (k .next) t bytes et in
     let body = rest-written (t .value) s bytes (table .taken) (k .value) (t .next) b er in

@@ -1,66 +1,86 @@
--- What a call that writes a record comes to, over any record: a refusal, or its bytes in the buffer. Then how many bytes fields take at most, so that sums of lengths do not wrap. Assumes nothing.
-use mathlib.Core.Path.{_≡_, _∙_, ap}
-use mathlib.Core.List.{List, [], _∷_}
+-- What a call that writes a record comes to, over any record: its status, the room for 1 + the body's length, the kind byte and the body.
+-- Assumes nothing.
+use mathlib.Core.Path.{_≡_, refl, _∙_, ap}
+use mathlib.Core.List.{List, [], _∷_, _++_}
 use Prim.Native.Nat.{ℕ, _+_, _≤_, _<_}
-use native.Mathlib.Nat.{min-le-left}
 use native.Mathlib.Omega.{arith}
-use lib.ListN.{length, length-append, length-take}
+use lib.ListN.{length}
 use borrow.Author.Tests.{lt-ltb, le-ltb}
-use Rattle.types.specs.declared.table.Table.{Table}
-use Rattle.table.specs.Table.{byteCount}
-use Rattle.table.proofs.TableLaws.{bytes-le}
-use Rattle.cell.specs.Refusal.{Answered, answered, refused, checked}
+use Rattle.cell.specs.Answers.{status}
+use Rattle.cell.specs.declared.refusal.Status.{Status}
+use Rattle.cell.specs.declared.refusal.Status.the-variants as Status′
+use Rattle.cell.specs.Refusal.{Rule, Answered, answered, refused, checked}
 use Rattle.cell.proofs.RefusalLaws.{rule-broken, rule-kept}
-use Rattle.types.specs.declared.vector.Vector.{Vector}
-use Rattle.codec.specs.Written.{Put}
-use Rattle.codec.specs.Number.{signedCode}
-use Rattle.codec.specs.VectorField.{vectorBytes}
-use Rattle.codec.specs.RowList.{rowListBytes, filledFrom}
-use Rattle.codec.specs.TableField.{headBytes}
-use Rattle.codec.proofs.NumberLaws.{number-length}
-use Rattle.codec.proofs.WeightLaws.{weights-most, vector-parts}
-use Rattle.codec.proofs.PairLaws.{row-list-bytes}
-use Rattle.writing.proofs.HeadParts.{head-bytes}
-use Rattle.rowlists.proofs.RowParts.{pairs-most}
+use Rattle.cell.proofs.StatusLaws.{rules-refused, rules-kept, rules-passed}
+use Rattle.codec.specs.Kind.{kindOf}
+use Rattle.codec.specs.Written.{Room, Put}
+use Rattle.codec.proofs.WrittenLaws.{written-room, written-next}
+use Rattle.records.specs.Record.{Record, ofTable, ofGate, ofWitness, ofJob, family, bodyBytes, recordBytes}
 use Rattle.writers.specs.declared.write.Written.the-variants as Written′
-use Rattle.records.specs.Record.{Record, recordBytes}
-use Rattle.writers.specs.Calls.{tooShort, writeRecord, written, lent, Wrote}
+use Rattle.writers.specs.Calls.{tooShort, recordRules, recordChecked, Kept, writeRecord, written, lent, Wrote}
+use Rattle.bodies.proofs.RecordParts.{kind-and-body}
+use Rattle.bodies.proofs.BodyLaws.{body-most}
+use Rattle.writers.proofs.KeptLaws.{kept-few}
 
--- ---- the call
+-- the rules of a record, then others
+rules-then : {A : Type 0} (x : Record) (others : List Rule) (next : Answered A)
+    → checked (recordRules x []) (checked others next) ≡ checked (recordRules x others) next
+rules-then (ofTable t) others next = refl
+rules-then (ofGate t g) others next = refl
+rules-then (ofWitness t w) others next = refl
+rules-then (ofJob j) others next = refl
 
-module _ (x : Record) (old : List ℕ) where
-  -- a refusal leaves the buffer as it was
-  pub write-refused : {n : ℕ} → refused n ≡ writeRecord x (length old) → Wrote x old (Written′.Refused n) old
-  write-refused e = (ap written e, ap (lent old) e)
+-- what follows a record's rules: the room, and its bytes
+abbrev roomed : Record → List ℕ → Answered (List ℕ)
+roomed x old = checked (tooShort (length old) (recordBytes x) ∷ []) (answered (recordBytes x))
 
-  -- else the length is returned, and the record's bytes stand in the buffer
-  pub write-answered : {size : ℕ} {new : List ℕ} → answered (recordBytes x) ≡ writeRecord x (length old) → Put old 0 (recordBytes x) new size
-      → Wrote x old (Written′.Bytes size) new
-  write-answered {size} {new} e (s, b) =
-      let same : size ≡ length (recordBytes x) = omega arith in
-      (ap Written′.Bytes same ∙ ap written e, b ∙ ap (lent old) e)
+-- the rules of a record that a call writes into the buffer `old` are kept, and the call is left to the room
+pub record Passed (x : Record) (old : List ℕ) : Type 0 where
+  pub kept : Kept x
+  pub left : roomed x old ≡ writeRecord x (length old)
 
-  -- what comes after the rules of the record itself: the room
-  abbrev pub roomed : Answered (List ℕ)
-  roomed = checked (tooShort (length old) (recordBytes x) ∷ []) (answered (recordBytes x))
+refused-as : (x : Record) (old : List ℕ) {n : ℕ} → refused n ≡ writeRecord x (length old) → Wrote x old (Written′.Refused n) old
+refused-as x old e = (ap written e, ap (lent old) e)
 
-  pub no-room : length old < length (recordBytes x) → refused 12 ≡ roomed
-  no-room h = rule-broken 12 [] (answered (recordBytes x)) (lt-ltb (length old) (length (recordBytes x)) h)
+-- s is the status of the record x: its refusal is the call's, and the buffer is as it was; else its rules are passed
+module _ (x : Record) (old : List ℕ) {s : Status} (says : s ≡ status (recordChecked x)) where
+  pub write-refused : {n : ℕ} → s ≡ Status′.Refused n → Wrote x old (Written′.Refused n) old
+  write-refused e =
+      refused-as x old (rules-refused (recordRules x []) says (roomed x old) e ∙ rules-then x (tooShort (length old) (recordBytes x) ∷ []) (answered (recordBytes x)))
 
-  pub with-room : length (recordBytes x) ≤ length old → answered (recordBytes x) ≡ roomed
-  with-room h = rule-kept 12 [] (answered (recordBytes x)) (le-ltb (length old) (length (recordBytes x)) h)
+  pub write-passed : s ≡ Status′.Done → Passed x old
+  write-passed done = record {
+    kept = rules-kept (recordRules x []) says done;
+    left = rules-passed (recordRules x []) says (roomed x old) done ∙ rules-then x (tooShort (length old) (recordBytes x) ∷ []) (answered (recordBytes x));
+  }
 
--- ---- lengths
+-- then the call goes by the length of the body
+module _ {x : Record} {old : List ℕ} (passed : Passed x old) {size : ℕ} (long : size ≡ length (bodyBytes x)) where
+  -- which is small
+  pub size-most : size ≤ 2047
+  size-most = omega (arith, body-most x (kept-few x (passed .kept)))
 
--- a head takes at most 34 bytes
-pub head-most : (kind : ℕ) (t : Table) → t .n ≤ 8 → length (headBytes kind t) ≤ 34
-head-most kind t h =
-    rw (head-bytes kind t h, length-take) (omega (arith, min-le-left (byteCount (t .n)) (length (t .bytes)), bytes-le h))
+  total : length (recordBytes x) ≡ 1 + size
+  total = omega (arith, ap length (kind-and-body x))
 
--- n weights and b take at most 27
-pub vector-most : (n : ℕ) (v : Vector) → n ≤ 8 → length (vectorBytes n v) ≤ 27
-vector-most n v h = rw (vector-parts n v, length-append) (omega (arith, weights-most (v .a) n, number-length (signedCode (v .b))))
+  -- too little room is 12
+  pub write-short : length old < 1 + size → Wrote x old (Written′.Refused 12) old
+  write-short h = refused-as x old (rule-broken 12 [] (answered (recordBytes x)) (lt-ltb (length old) (length (recordBytes x)) (omega (arith, total))) ∙ passed .left)
 
--- a row list takes at most 1539
-pub rows-most : (counts : List ℕ) → length (rowListBytes counts) ≤ 1539
-rows-most counts = rw (row-list-bytes counts, length-append) (omega (arith, number-length (filledFrom counts 256 0), pairs-most counts 256))
+  -- else there is room for the body behind the kind byte, and with both the record is written
+  module _ (fits : 1 + size ≤ length old) where
+    abbrev kind : List ℕ
+    kind = kindOf (family x) ∷ []
+
+    both-room : Room old 0 (kind ++ bodyBytes x)
+    both-room = omega (arith, long)
+
+    pub body-room : {out : List ℕ} {at : ℕ} → Put old 0 kind out at → Room out at (bodyBytes x)
+    body-room first = written-room old 0 kind (bodyBytes x) both-room first
+
+    pub write-body : {out new : List ℕ} {at end : ℕ} → Put old 0 kind out at → Put out at (bodyBytes x) new end → Wrote x old (Written′.Bytes end) new
+    write-body {out} {new} {at} {end} first second =
+        let by = rule-kept 12 [] (answered (recordBytes x)) (le-ltb (length old) (length (recordBytes x)) (omega (arith, total))) ∙ passed .left in
+        let put : Put old 0 (recordBytes x) new end = rw (kind-and-body x) (written-next old 0 kind (bodyBytes x) both-room first second) in
+        let same : end ≡ length (recordBytes x) = omega (arith, put .0) in
+        (ap Written′.Bytes same ∙ ap written by, put .1 ∙ ap (lent old) by)

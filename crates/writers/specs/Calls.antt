@@ -5,13 +5,11 @@ use mathlib.Core.List.{List, [], _∷_, _++_}
 use Prim.Native.Nat.{ℕ}
 use lib.Dec.{ltb}
 use lib.ListN.{length}
-use Rattle.cell.specs.Refusal.{Rule, rule, Answered, answered, refused, checked}
+use Rattle.cell.specs.Refusal.{Rule, rule, Answered, answered, refused, checked, NoneBroken}
 use Rattle.cell.specs.Calls.{tableRules, gateRules, witnessRules}
 use Rattle.job.specs.declared.job.Job.{Job}
 use Rattle.job.specs.Calls.{jobRules, isEnded}
 use Rattle.codec.specs.Written.{writtenAt}
-use Rattle.codec.specs.Number.{numberBytes}
-use Rattle.codec.specs.VectorField.{vectorBytes}
 use Rattle.writers.specs.declared.write.Written.{Written}
 use Rattle.writers.specs.declared.write.Written.the-variants as Written′
 use Rattle.records.specs.Record.{Record, ofTable, ofGate, ofWitness, ofJob, recordBytes}
@@ -33,9 +31,12 @@ recordRules (ofGate t g) others = gateRules t g others
 recordRules (ofWitness t w) others = witnessRules t w others
 recordRules (ofJob j) others = jobRules j (hasEnded j ∷ others)
 
--- K, v and s of a job, the fields of its record before the row list
-abbrev pub numbersBytes : Job → List ℕ
-numbersBytes j = (numberBytes (j .state .k) ++ vectorBytes (j .table .n) (j .state .v)) ++ vectorBytes (j .table .n) (j .state .s)
+-- the test of a record, and that it keeps its rules
+abbrev pub recordChecked : Record → Answered (Unit {0})
+recordChecked x = checked (recordRules x []) (answered tt)
+
+abbrev pub Kept : Record → Type 0
+Kept x = NoneBroken (recordRules x [])
 
 -- the bytes to write, in a buffer of so many bytes
 abbrev pub writeRecord : Record → ℕ → Answered (List ℕ)
@@ -51,6 +52,10 @@ abbrev pub lent : List ℕ → Answered (List ℕ) → List ℕ
 lent out (answered bytes) = writtenAt out 0 bytes
 lent out (refused n) = out
 
--- what a call that writes a record comes to: what it returns, and the lent buffer before and after it
+-- a call that writes has come to this: what it returns, and the lent buffer before and after it
+abbrev pub WroteBytes : Answered (List ℕ) → (old : List ℕ) → Written → (new : List ℕ) → Type 0
+WroteBytes a old r new = (r ≡ written a) × (new ≡ lent old a)
+
+-- of a record
 abbrev pub Wrote : Record → (old : List ℕ) → Written → (new : List ℕ) → Type 0
-Wrote x old r new = (r ≡ written (writeRecord x (length old))) × (new ≡ lent old (writeRecord x (length old)))
+Wrote x old r new = WroteBytes (writeRecord x (length old)) old r new

@@ -1,32 +1,28 @@
-// Records written into a lent buffer. A call returns the length; the bytes past it keep their values, and so do all on a refusal.
+// Records written into a lent buffer, each its kind byte and its body. A call returns the length; the bytes past it keep their values, and
+// so do all on a refusal.
+use bodies::body::gate_length;
+use bodies::body::job_length;
+use bodies::body::put_gate;
+use bodies::body::put_job;
+use bodies::body::put_witness;
+use bodies::body::witness_length;
 use cell::checker::gate_status;
 use cell::checker::witness_status;
 use cell::refusal::Status;
 use cell::refusal::table_status;
 use job::job::Job;
 use job::job::job_status;
-use rowlists::write::put_rows;
-use rowlists::write::rows_length;
 use stepping::stepping::is_ended;
-use table::table::row_count;
 use types::gate::Gate;
-use types::stage::Stage;
 use types::table::Table;
-use types::vector::Vector;
 use types::witness::Witness;
-use writing::length::head_length;
-use writing::length::number_length;
-use writing::length::vector_length;
-use writing::put::put_head;
-use writing::put::put_number;
-use writing::put::put_vector;
+use writing::length::table_length;
+use writing::put::put_kind;
+use writing::put::put_table;
 ghost use mathlib.Core.Path.{_≡_};
-ghost use Prim.Native.Nat.{_≤_};
-ghost use lib.ListN.{length};
-ghost use Rattle.job.specs.Sound.{Sound};
-ghost use Rattle.codec.specs.Written.{Room, Put};
-ghost use Rattle.records.specs.Record.{ofTable, ofGate, ofWitness, ofJob, gateVector, recordBytes};
-ghost use Rattle.writers.specs.Calls.{numbersBytes, Wrote};
+ghost use Rattle.cell.specs.Answers.{status};
+ghost use Rattle.records.specs.Record.{ofTable, ofGate, ofWitness, ofJob};
+ghost use Rattle.writers.specs.Calls.{recordChecked, Wrote};
 
 // How many bytes were written, or the number of a refusal.
 pub enum Written {
@@ -42,21 +38,11 @@ pub fn write_table(table: Table, out: &mut [u8]) -> Written
     if let Status::Refused(number) = status {
         return Written::Refused(number);
     }
-    if out.len() < head_length(table, 1) {
+    if out.len() < 1 + table_length(table) {
         return Written::Refused(12);
     }
-    Written::Bytes(put_head(out, 1, table))
-}
-
-// Returns the weights and T of a gate as a vector.
-fn vector_of(gate: Gate) -> Vector
-    ensures { λ r. ⌜ r ≡ gateVector gate ⌝ }
-{
-    let a = gate.weights;
-    Vector {
-        a,
-        b: gate.threshold,
-    }
+    let at = put_kind(out, 0, 1);
+    Written::Bytes(put_table(out, at, table))
 }
 
 // Writes a table with a gate, kind 2. Refusals: 2, 3, 7, 12.
@@ -67,12 +53,11 @@ pub fn write_gate(table: Table, gate: Gate, out: &mut [u8]) -> Written
     if let Status::Refused(number) = status {
         return Written::Refused(number);
     }
-    let v = vector_of(gate);
-    if out.len() < head_length(table, 2) + vector_length(v, table.n) {
+    if out.len() < 1 + gate_length(table, gate) {
         return Written::Refused(12);
     }
-    let at = put_head(out, 2, table);
-    Written::Bytes(put_vector(out, at, table.n, v))
+    let at = put_kind(out, 0, 2);
+    Written::Bytes(put_gate(out, at, table, gate))
 }
 
 // Writes a table with a witness, kind 3. Refusals: 2, 3, 8, 12.
@@ -83,69 +68,40 @@ pub fn write_witness(table: Table, witness: Witness, out: &mut [u8]) -> Written
     if let Status::Refused(number) = status {
         return Written::Refused(number);
     }
-    let rows = row_count(table.n);
-    if out.len() < head_length(table, 3) + rows_length(&witness.counts, rows) {
+    if out.len() < 1 + witness_length(table, witness) {
         return Written::Refused(12);
     }
-    let at = put_head(out, 3, table);
-    let length = put_rows(&mut out[at..], &witness.counts, rows);
-    let end = at + length;
-    Written::Bytes(end)
+    let at = put_kind(out, 0, 3);
+    Written::Bytes(put_witness(out, at, table, witness))
 }
 
-// Returns how many bytes a sound open job takes.
-fn job_length(job: Job) -> usize
-    requires { ⌜ (job .table .n ≤ 8) × Sound job ⌝ }
-    ensures { λ r. ⌜ r ≡ length (recordBytes (ofJob job)) ⌝ }
+// Returns whether a job keeps the rules of saving: its own, then 13 for one that has ended.
+fn save_status(job: Job) -> Status
+    ensures { λ r. ⌜ r ≡ status (recordChecked (ofJob job)) ⌝ }
 {
-    let table = job.table;
+    let status = job_status(job);
+    if let Status::Refused(number) = status {
+        return Status::Refused(number);
+    }
     let state = job.state;
-    let vectors = vector_length(job.state.v, table.n) + vector_length(job.state.s, table.n);
-    head_length(table, 4)
-        + number_length(job.state.k)
-        + vectors
-        + rows_length(&state.counts, row_count(table.n))
-}
-
-// Writes K, v and s of a sound job at a position. Returns the position after them.
-fn put_numbers(out: &mut [u8], at: usize, job: Job) -> usize
-    requires { ⌜ (job .table .n ≤ 8) × Sound job × Room (now out) at (numbersBytes job) ⌝ }
-    ensures { λ r. ⌜ Put (now (out .entry)) at (numbersBytes job) (now (out .exit)) r ⌝ }
-{
-    let n = job.table.n;
-    let v_at = put_number(out, at, job.state.k);
-    let s_at = put_vector(out, v_at, n, job.state.v);
-    put_vector(out, s_at, n, job.state.s)
-}
-
-// Writes a sound open job into a buffer with room for it. Returns the length.
-fn put_job(job: Job, out: &mut [u8]) -> usize
-    requires { ⌜ (job .table .n ≤ 8) × Sound job × (job .state .stage ≡ Stage.Open) × Room (now out) 0 (recordBytes (ofJob job)) ⌝ }
-    ensures { λ r. ⌜ Put (now (out .entry)) 0 (recordBytes (ofJob job)) (now (out .exit)) r ⌝ }
-{
-    let table = job.table;
-    let state = job.state;
-    let start = put_head(out, 4, table);
-    let at = put_numbers(out, start, job);
-    let length = put_rows(&mut out[at..], &state.counts, row_count(table.n));
-    at + length
+    let stage = state.stage;
+    if is_ended(stage) {
+        return Status::Refused(13);
+    }
+    Status::Done
 }
 
 // Saves an open job, kind 4. Refusals: 2, 3, 9, 13, 12.
 pub fn save(job: Job, out: &mut [u8]) -> Written
     ensures { λ r. ⌜ Wrote (ofJob job) (now (out .entry)) r (now (out .exit)) ⌝ }
 {
-    let status = job_status(job);
+    let status = save_status(job);
     if let Status::Refused(number) = status {
         return Written::Refused(number);
     }
-    let state = job.state;
-    let stage = state.stage;
-    if is_ended(stage) {
-        return Written::Refused(13);
-    }
-    if out.len() < job_length(job) {
+    if out.len() < 1 + job_length(job) {
         return Written::Refused(12);
     }
-    Written::Bytes(put_job(job, out))
+    let at = put_kind(out, 0, 4);
+    Written::Bytes(put_job(out, at, job))
 }

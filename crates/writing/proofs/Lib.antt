@@ -1,2 +1,2 @@
--- the kind byte and the table of a record, byte by byte
-pub mod HeadParts
+-- a table as it is written, and its length
+pub mod TableParts

@@ -7,7 +7,7 @@ ghost use Prim.Native.Nat.{_≤_};
 ghost use lib.ListN.{length};
 ghost use Rattle.codec.specs.Number.{numberBytes, signedCode};
 ghost use Rattle.codec.specs.VectorField.{vectorBytes};
-ghost use Rattle.codec.specs.TableField.{headBytes};
+ghost use Rattle.codec.specs.TableField.{tableBytes};
 
 // Returns how many bytes a number takes.
 pub fn number_length(x: u32) -> usize
@@ -45,10 +45,10 @@ pub fn vector_length(v: Vector, n: u8) -> usize
     length + number_length(signed_code(v.b))
 }
 
-// Returns how many bytes the kind byte and the table of a record take.
-pub fn head_length(table: Table, kind: u8) -> usize
+// Returns how many bytes a table takes: one for n, and those of its bits.
+pub fn table_length(table: Table) -> usize
     requires { ⌜ table .n ≤ 8 ⌝ }
-    ensures { λ r. ⌜ r ≡ length (headBytes kind table) ⌝ }
+    ensures { λ r. ⌜ r ≡ length (tableBytes table) ⌝ }
 {
-    2 + byte_count(table.n)
+    1 + byte_count(table.n)
 }

@@ -6,12 +6,14 @@ use types::table::Table;
 use types::vector::Vector;
 ghost use mathlib.Core.Path.{_≡_};
 ghost use mathlib.Core.Bool.{true};
+ghost use mathlib.Core.List.{[], _∷_};
 ghost use Prim.Native.Nat.{_≤_, _<_};
+ghost use lib.ListN.{length, take};
 ghost use Rattle.table.specs.Gate.{weightLimit, inRange};
 ghost use Rattle.codec.specs.Written.{Room, Put};
 ghost use Rattle.codec.specs.Number.{numberBytes};
 ghost use Rattle.codec.specs.VectorField.{vectorBytes};
-ghost use Rattle.codec.specs.TableField.{headBytes};
+ghost use Rattle.codec.specs.TableField.{tableBytes};
 
 // Writes a number below 2^21.
 pub fn put_number(out: &mut [u8], at: usize, x: u32) -> usize
@@ -47,19 +49,34 @@ pub fn put_vector(out: &mut [u8], at: usize, n: u8, v: Vector) -> usize
     put_number(out, here, signed_code(v.b))
 }
 
-// Writes the kind byte and the table of a record at the start of the buffer.
-pub fn put_head(out: &mut [u8], kind: u8, table: Table) -> usize
-    requires { ⌜ (table .n ≤ 8) × Room (now out) 0 (headBytes kind table) ⌝ }
-    ensures { λ r. ⌜ Put (now (out .entry)) 0 (headBytes kind table) (now (out .exit)) r ⌝ }
+// Writes the kind byte of a record.
+pub fn put_kind(out: &mut [u8], at: usize, kind: u8) -> usize
+    requires { ⌜ Room (now out) at (kind ∷ []) ⌝ }
+    ensures { λ r. ⌜ Put (now (out .entry)) at (kind ∷ []) (now (out .exit)) r ⌝ }
 {
-    out[0] = kind;
-    out[1] = table.n;
-    let bytes = table.bytes;
-    let count = byte_count(table.n);
+    out[at] = kind;
+    at + 1
+}
+
+// Writes the first bytes of those that hold bits.
+fn put_bits(out: &mut [u8], at: usize, bits: &[u8], count: usize) -> usize
+    requires { ⌜ (count ≤ length (now bits)) × Room (now out) at (take count (now bits)) ⌝ }
+    ensures { λ r. ⌜ Put (now (out .entry)) at (take count (now (bits .entry))) (now (out .exit)) r ⌝ }
+{
     let mut i: usize = 0;
     while i < count {
-        out[2 + i] = bytes[i];
+        out[at + i] = bits[i];
         i = i + 1;
     }
-    2 + count
+    at + count
+}
+
+// Writes a table: n, then its bits.
+pub fn put_table(out: &mut [u8], at: usize, table: Table) -> usize
+    requires { ⌜ (table .n ≤ 8) × Room (now out) at (tableBytes table) ⌝ }
+    ensures { λ r. ⌜ Put (now (out .entry)) at (tableBytes table) (now (out .exit)) r ⌝ }
+{
+    let bytes = table.bytes;
+    let bits_at = put_number(out, at, table.n as u32);
+    put_bits(out, bits_at, &bytes, byte_count(table.n))
 }

@@ -1,6 +1,7 @@
 //! The wrapper on the cases of document 01.
 
-use crate::{calls, Gate, InputKind, Outcome, Refusal, SavedJob, Table, Verdict, Witness, CALL_BUDGET, ROOM};
+use crate::fields::{put_number, put_signed};
+use crate::{calls, Gate, InputKind, Outcome, Refusal, SavedJob, Table, Verdict, Witness, CALL_BUDGET, CAP, ROOM};
 
 /// A table that is open after 100,000 corrections and has a witness after 131,076.
 const SLOW: [u8; 32] = [
@@ -40,6 +41,29 @@ fn an_open_job_is_stored_and_carried_on() {
     let Ok(Outcome { verdict: Verdict::Witness(witness), made: 1 }) = next.carry_on(1) else { panic!() };
     assert!(witness.balances());
     assert_eq!(job.carry_on(CALL_BUDGET), Ok(Outcome { verdict: Verdict::Witness(witness), made: 31_076 }));
+}
+
+/// A job of the table that is true where both inputs are, after k corrections: since the mark at 2^19 all of them by row 0.
+fn job_after(k: u32) -> Result<SavedJob, Refusal> {
+    let count = k - (1 << 19);
+    let mut record = vec![4, 2, 0x08];
+    put_number(&mut record, k);
+    for z in [0, 0, count as i32, 0, 0, 0] {
+        put_signed(&mut record, z);
+    }
+    for number in [1, 0, count] {
+        put_number(&mut record, number);
+    }
+    SavedJob::from_record(&record)
+}
+
+#[test]
+fn a_job_is_carried_on_up_to_the_cap() {
+    let job = job_after(CAP - 1).unwrap();
+    assert_eq!(job.carry_on(2), Err(Refusal::Cap));
+    let Ok(Outcome { verdict: Verdict::Open(last), made: 1 }) = job.carry_on(1) else { panic!() };
+    assert_eq!((last.corrections(), last.carry_on(1)), (CAP, Err(Refusal::Cap)));
+    assert_eq!(job_after(CAP + 1), Err(Refusal::Unsound));
 }
 
 #[test]

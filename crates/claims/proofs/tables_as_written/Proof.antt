@@ -3,10 +3,9 @@ use native.Mathlib.Nat.{one-mul}
 use Rattle.function.proofs.VectorLaws.{corrected-threshold}
 use Rattle.function.specs.Function.{level}
 use Rattle.table.specs.Table.{value, functionOf}
-use Rattle.table.proofs.OnTables.{table-realises, table-balances, table-total, table-input-total, table-turns, table-fails, table-corrected-a}
+use Rattle.table.proofs.OnTables.{table-realises, table-balances, table-total, table-input-total, table-turns, table-fails, table-corrected-a, zero-failing}
 use Rattle.table.proofs.BinateRows.{table-binate-counts}
-use Rattle.state.proofs.MachineLaws.{fresh-binate}
-use Rattle.state.proofs.FreshSound.{table-fresh-open}
+use Rattle.state.proofs.MachineLaws.{fresh-open, fresh-binate}
 use Rattle.job.specs.Machine.{fresh}
 use Rattle.claims.proofs.TrueInputs.{table-distance, table-gate-true}
 use Rattle.claims.proofs.tables_as_written.Statement.{statement}
@@ -22,7 +21,7 @@ returns c = λ t. record {
   total = table-total t;
   input-total = table-input-total t;
   turns = table-turns t;
-  fresh-unate = λ e i. record { table = t; state = table-fresh-open t e i };
+  fresh-unate = λ e i. record { table = t; state = fresh-open (functionOf t) 0 e (zero-failing t) i };
   fresh-binate = λ place e i. record { table = t; state = fresh-binate (functionOf t) place e i };
   binate-rows = λ few place rise fall binate. table-binate-counts t place few binate rise fall;
   fails-as = table-fails t;

@@ -24,8 +24,8 @@ made start a new r e given fits =
 enum-told : tie.Need-enum-told
 enum-told c = search needs
 
-ended-requires : tie.Need-ended-requires
-ended-requires c κs = search needs
+last-requires : tie.Need-last-requires
+last-requires c κs = search needs
 
 same-length : tie.Need-same-length
 same-length c = search needs
@@ -42,7 +42,7 @@ returns-2 : tie.Need-returns-2
 returns-2 c =
     let told = c .before .before .before .before .before .before in
     let start = told .before .before .before .before .before in
-    let call = c .before .before .ended in
+    let call = c .before .before .last in
     let case = at-end (now (start .args .input)) (start .args .progress) (told .enum-told .given .1) (c .before .before .before .before .if1 .left) in
     made start _ _ (call .result) case (call .ensures .0) (call .ensures .1)
 
@@ -50,7 +50,7 @@ returns-3 : tie.Need-returns-3
 returns-3 c =
     let told = c .before .before .before .before in
     let start = told .before .before .before .before .before in
-    let call = c .before .before .ended2 in
+    let call = c .before .before .last2 in
     let case = at-last (now (start .args .input)) (start .args .progress) (told .enum-told2 .given .1) in
     made start _ _ (call .result) case (call .ensures .0) (call .ensures .1)
 
@@ -66,7 +66,7 @@ next-line-spec =
     (tie.spec
     enum-told
     (λ c κs. search needs)
-    ended-requires
+    last-requires
     (λ c. search needs)
     (λ c κs. search needs)
     (λ c. search needs)

@@ -79,7 +79,9 @@ module _ (c : tie.After-next-line Inv-loop μ-loop) where
   more = lined-more (now (start .args .input)) (start .args .progress) (now (start .args .out)) (at .loop .inv) (c .next-line .ensures .0) some room (c .next-line .ensures .1 .0)
 
 add-count : tie.Need-add-count Inv-loop μ-loop
-add-count c = let line = c .before .before in omega (arith, long (start line), more line .few, more line .fits)
+add-count c =
+    let line = c .before .before in
+    omega (arith, long (start line), kept (at line), sub-loop (at line), at line .loop .inv .few, line .before .before .before .before .before .loop-test .taken)
 
 add-length : tie.Need-add-length Inv-loop μ-loop
 add-length c = omega (arith, more (c .before .before .before) .fits)
@@ -93,7 +95,7 @@ loop-again c = more (c .before .before .before .before)
 -- at the end
 filled : (c : tie.At-loop Inv-loop μ-loop)
     → (let a = c .before .before .before .before .args in
-    (isDone (a .progress .step) ≡ false → 1 ≤ c .loop .count)
+    (isDone (a .progress .phase) ≡ false → 1 ≤ c .loop .count)
     → Filled (now (a .input)) (a .progress) (now (a .out)) (c .loop .out) (record { count = c .loop .count; length = c .loop .length; next = c .loop .next }))
 filled c some =
     let lined = c .loop .inv in

@@ -2,7 +2,7 @@
 use mathlib.Core.Path.{ap}
 use borrow.Author.Needs.{needs}
 use Rattle.reporting.specs.declared.tally.Tally.{Tally}
-use Rattle.batch.specs.declared.progress.Step.the-variants.{Records}
+use Rattle.batch.specs.declared.progress.Phase.the-variants.{Records}
 use Rattle.batch.specs.Progress.{progress}
 use Rattle.batch.proofs.progress.at_start.Statement.{statement}
 use Rattle.batch.proofs.progress.at_start.Tie as tie

@@ -3,7 +3,6 @@
 use borrow.Author.Needs.{needs}
 use lib.ListN.{length}
 use mathlib.Core.Path.{_≡_}
-use native.Mathlib.Omega.{arith}
 use Rattle.bench_main.proofs.ways.in_small_calls.Statement.{statement}
 use Rattle.bench_main.proofs.ways.in_small_calls.Tie as tie
 

@@ -13,7 +13,7 @@ use Rattle.table.proofs.TableLaws.{rows-le}
 use Rattle.types.specs.declared.table.Table.{Table}
 use Rattle.types.specs.declared.state.State.{State}
 use Rattle.chunks.specs.Core.{stateOf}
-use Rattle.state.proofs.StandsLaws.{Bounded}
+use Rattle.chunks.proofs.StandsLaws.{Bounded}
 use Rattle.chunks.proofs.FollowLaws.{withVectors, Follows, follows-start, restores}
 use Rattle.chunks.proofs.ChunkLaws.{Begun, Passed, Going, follows-narrow, follows-passed, passed-bounded, passed-row, passed-cleared, passed-going, passed-closed, passed-marked, passed-other, going-ends}
 use Rattle.chunks.proofs.chunk.chunk.Statement.{statement}
@@ -28,30 +28,26 @@ abbrev μ-loop : tie.MeasureT-loop
 
 -- ---- before the loop
 
-store-ones-requires : tie.Need-store-ones-requires Inv-loop μ-loop
-store-ones-requires c κs = let at = c .before .before in ((at .before .before .pre .0 .0, at .lane-values .ensures), refl)
-
-store-keys-requires : tie.Need-store-keys-requires Inv-loop μ-loop
-store-keys-requires c κs =
-    let at = c .before .before .before .before .before in ((at .before .before .pre .0 .0, at .lane-values .ensures), refl)
+store-rows-requires : tie.Need-store-rows-requires Inv-loop μ-loop
+store-rows-requires c κs = (c .before .before .before .pre .0 .0, refl, refl)
 
 -- where the tables are made, and where the function began
-abbrev entry : tie.After-store-keys Inv-loop μ-loop → tie.Start Inv-loop μ-loop
-entry c = c .before .before .before .before .before .before .before .before
+abbrev entry : tie.After-store-rows Inv-loop μ-loop → tie.Start Inv-loop μ-loop
+entry c = c .before .before .before .before
 
 -- the table, and the state that it began with
-abbrev table : tie.After-store-keys Inv-loop μ-loop → Table
+abbrev table : tie.After-store-rows Inv-loop μ-loop → Table
 table c = entry c .args .table
 
-abbrev state : tie.After-store-keys Inv-loop μ-loop → State
+abbrev state : tie.After-store-rows Inv-loop μ-loop → State
 state c = stateOf (entry c .args .core) (entry c .args .counts .now)
 
 -- `rows` is the number of the table's rows
-rows-of : (c : tie.After-store-keys Inv-loop μ-loop)
-    → c .before .before .before .before .before .before .before .row-count .result ≡ rows (table c)
-rows-of c = c .before .before .before .before .before .before .before .row-count .ensures
+rows-of : (c : tie.After-store-rows Inv-loop μ-loop)
+    → c .before .before .before .row-count .result ≡ rows (table c)
+rows-of c = c .before .before .before .row-count .ensures
 
-begun : (c : tie.After-store-keys Inv-loop μ-loop) → Begun (table c) (state c) (entry c .args .budget)
+begun : (c : tie.After-store-rows Inv-loop μ-loop) → Begun (table c) (state c) (entry c .args .budget)
 begun c = let p = entry c .pre in record { inputs = p .0 .0; sound = p .0 .1; capped = p .0 .3; few = p .1 .0 }
 
 sums-of-requires : tie.Need-sums-of-requires Inv-loop μ-loop
@@ -61,7 +57,7 @@ sums-of-requires-2 : tie.Need-sums-of-requires-2 Inv-loop μ-loop
 sums-of-requires-2 c κs = let p = entry (c .before) .pre in (p .0 .1 .shaped .copied, omega (arith, p .1 .2))
 
 -- the sums where the loop begins
-abbrev tabled : tie.After-keys2 Inv-loop μ-loop → tie.After-store-keys Inv-loop μ-loop
+abbrev tabled : tie.After-keys2 Inv-loop μ-loop → tie.After-store-rows Inv-loop μ-loop
 tabled c = c .before .before .before .before .before
 
 started : (c : tie.After-keys2 Inv-loop μ-loop)
@@ -76,7 +72,7 @@ started c =
 lowest-requires : tie.Need-lowest-requires Inv-loop μ-loop
 lowest-requires c κs =
     let from = tabled c in (
-      (begun from .inputs, from .before .before .before .store-ones .ensures, from .store-keys .ensures),
+      (begun from .inputs, from .store-rows .ensures .0, from .store-rows .ensures .1),
       follows-narrow (begun from) (omega arith) (started c),
     )
 
@@ -87,7 +83,7 @@ loop-holds c =
 
 -- ---- the row of a pass
 
-abbrev from-head : tie.At-loop Inv-loop μ-loop → tie.After-store-keys Inv-loop μ-loop
+abbrev from-head : tie.At-loop Inv-loop μ-loop → tie.After-store-rows Inv-loop μ-loop
 from-head c = tabled (c .before .before)
 
 -- the loop's state
@@ -193,7 +189,7 @@ lowest-requires-2 c κs =
     let on = c .before .before .before in
     let at = pass (compared (on .before) .before) in
     let from = from-head (head at) in (
-      (begun from .inputs, from .before .before .before .store-ones .ensures, from .store-keys .ensures),
+      (begun from .inputs, from .store-rows .ensures .0, from .store-rows .ensures .1),
       follows-narrow (begun from) (omega (arith, at .before .loop-test .taken)) (follows-on on),
     )
 
@@ -230,14 +226,16 @@ stage-of-requires c κs = c .before .before .before .before .before .loop .inv .
 
 returns : tie.Need-returns Inv-loop μ-loop
 returns c =
-    let left = c .before .before .before .before .before in
+    let end = c .before in
+    let left = end .before .before .before .before .before in
     let at = left .before in
-    let current = c .before .before .before .vector-of in
-    let copied = c .before .vector-of2 in
+    let current = end .before .before .before .vector-of in
+    let copied = end .before .vector-of2 in
     let all : at .loop .next < 512 → entry (from-head at) .args .budget ≤ at .loop .made =
     λ h. ⊎-elim (λ w. absurd (omega (arith, ltb-false (at .loop .next) 512 (w .1 .left)))) (λ w. w .left) (left .loop-test .came) in
-    going-ends (begun (from-head at)) (at .loop .inv) (c .stage-of .ensures) all
-    (restores (looped at) (c .stage-of .result) (current .result) (copied .result) (current .ensures) (copied .ensures))
+    rw (c .core-with .ensures)
+    (going-ends (begun (from-head at)) (at .loop .inv) (end .stage-of .ensures) all
+    (restores (looped at) (end .stage-of .result) (current .result) (copied .result) (current .ensures) (copied .ensures)))
 
 pub chunk-spec : {M : Type 1} → statement M
 chunk-spec =
@@ -246,9 +244,7 @@ chunk-spec =
     Inv-loop
     μ-loop
     (λ c κs. search needs)
-    (λ c κs. search needs)
-    store-ones-requires
-    store-keys-requires
+    store-rows-requires
     sums-of-requires
     sums-of-requires-2
     lowest-requires
@@ -270,4 +266,5 @@ chunk-spec =
     vector-of-requires
     (λ c κs. search needs)
     stage-of-requires
+    (λ c κs. search needs)
     returns)

@@ -1,7 +1,6 @@
 -- `chunks::chunk::stage_of` meets its contract. Assumes nothing.
 use mathlib.Core.Path.{refl}
 use native.Mathlib.Omega.{arith}
-use borrow.Author.Tests.{ltb-true}
 use Rattle.chunks.proofs.chunk.stage_of.Statement.{statement}
 use Rattle.chunks.proofs.chunk.stage_of.Tie as tie
 

@@ -11,7 +11,7 @@ use Rattle.cell.proofs.TableChecked.{kept-inputs}
 use Rattle.results.specs.Result.{fitted, Returned}
 use Rattle.results.proofs.ResultLaws.{returned-as}
 use Rattle.inputs.specs.declared.asked.Asked.{Asked}
-use Rattle.inputs.specs.Inputs.{kindBytes, chowBytes, askedBytes}
+use Rattle.inputs.specs.Inputs.{inputBytes, chowBytes, askedBytes}
 use Rattle.inputs.proofs.asked.put_asked.Statement.{statement}
 use Rattle.inputs.proofs.asked.put_asked.Tie as tie
 
@@ -32,7 +32,7 @@ returns : tie.Need-returns
 returns c =
     let wrote = c .before .before in
     let made = wrote .before .before in
-    as-asked (made .before .before .before .before) (made .before .enum-told .given .1) (ap kindBytes (made .all-kinds .ensures))
+    as-asked (made .before .before .before .before) (made .before .enum-told .given .1) (ap inputBytes (made .all-kinds .ensures))
     (back w64 (wrote .put-kinds .ok) ∙ wrote .put-kinds .ensures .0, wrote .put-kinds .ensures .1)
 
 -- ---- Chow's parameters

@@ -10,24 +10,24 @@ use borrow.Author.Needs.{needs}
 use Rattle.numbers.proofs.Int.{back}
 use Rattle.types.specs.declared.inputs.Place.{Place}
 use Rattle.results.proofs.ResultLaws.{returned-short}
-use Rattle.inputs.specs.Inputs.{kindBytes}
+use Rattle.inputs.specs.Inputs.{inputBytes}
 use Rattle.inputs.proofs.ByteLaws.{kind-count, kind-at, Stored, stored-none, stored-more, stored-all}
 use Rattle.inputs.proofs.inputs.put_kinds.Statement.{statement}
 use Rattle.inputs.proofs.inputs.put_kinds.Tie as tie
 
 -- eight bytes
-long : (places : List Place) → length places ≡ 8 → length (kindBytes places) ≡ 8
+long : (places : List Place) → length places ≡ 8 → length (inputBytes places) ≡ 8
 long places e = kind-count places ∙ e
 
 abbrev Inv-loop : tie.InvT-loop
-Inv-loop out₀ places place₀ out place = Stored (kindBytes places) out₀ out place
+Inv-loop out₀ places place₀ out place = Stored (inputBytes places) out₀ out place
 
 abbrev μ-loop : tie.MeasureT-loop
 μ-loop out₀ places place₀ out place = 8 - place
 
 module _ (c : tie.Start Inv-loop μ-loop) where
   abbrev bytes : List ℕ
-  bytes = kindBytes (c .args .t1)
+  bytes = inputBytes (c .args .t1)
 
   count : length bytes ≡ 8
   count = let eight : length (c .args .t1) ≡ 8 = search needs in long (c .args .t1) eight
@@ -48,7 +48,7 @@ loop-again c =
     let at = c .before .before .before in
     let s = at .before .before .before in
     stored-more (bytes s) (s .args .out .now) (at .loop .place) (omega (arith, count s)) (omega (arith, count s, at .before .if1 .left)) (at .loop .inv)
-    (c .kind-byte .ensures ∙ sym (kind-at (s .args .t1) (at .loop .place)))
+    (c .input-byte .ensures ∙ sym (kind-at (s .args .t1) (at .loop .place)))
 
 same-length : tie.Need-same-length Inv-loop μ-loop
 same-length c = c .before .loop .inv .2

@@ -3,7 +3,7 @@ use mathlib.Core.Path.{_≡_, sym, ap}
 use Prim.Native.Nat.{ℕ, _-_, _^_}
 use native.Mathlib.Omega.{arith}
 use borrow.Author.Needs.{needs}
-use Rattle.machine.proofs.HighestLaws.{one-shifted}
+use Rattle.numbers.proofs.PowerLaws.{one-shifted}
 use Rattle.lanes.proofs.block.block_count.Statement.{statement}
 use Rattle.lanes.proofs.block.block_count.Tie as tie
 

@@ -34,36 +34,36 @@ threshold-read : (c : tie.After-struct-told Inv-loop μ-loop)
     → toZ w32 (ofZ w32 (c .before .before .args .v .b)) ≡ c .before .before .args .v .b
 threshold-read c = toZ-ofZ (search needs)
 
-size-of-requires : tie.Need-size-of-requires Inv-loop μ-loop
-size-of-requires c κs = rw (threshold-read c) (range (c .before .before) .threshold)
+absolute-requires : tie.Need-absolute-requires Inv-loop μ-loop
+absolute-requires c κs = rw (threshold-read c) (range (c .before .before) .threshold)
 
 loop-holds : tie.Need-loop-holds Inv-loop μ-loop
 loop-holds c = (omega arith, omega (arith, sum-below-zero (sizeAt (c .before .before .before .args .v .a))))
 
-abbrev start : tie.After-size-of-arg Inv-loop μ-loop → tie.Start Inv-loop μ-loop
+abbrev start : tie.After-absolute-arg Inv-loop μ-loop → tie.Start Inv-loop μ-loop
 start c = c .before .before .before .before .before .before
 
 -- the weight, read from its bits
-weight-read : (c : tie.After-size-of-arg Inv-loop μ-loop)
+weight-read : (c : tie.After-absolute-arg Inv-loop μ-loop)
     → let w = getD (start c .args .v .a) (c .before .before .loop .place) (pos 0) in toZ w32 (ofZ w32 w) ≡ w
-weight-read c = toZ-ofZ (record { sfits = c .size-of-arg .given })
+weight-read c = toZ-ofZ (record { sfits = c .absolute-arg .given })
 
-size-of-requires-2 : tie.Need-size-of-requires-2 Inv-loop μ-loop
-size-of-requires-2 c κs = rw (weight-read c) (in-range-at (range (start c)) (c .before .before .loop .place) (omega arith))
+absolute-requires-2 : tie.Need-absolute-requires-2 Inv-loop μ-loop
+absolute-requires-2 c κs = rw (weight-read c) (in-range-at (range (start c)) (c .before .before .loop .place) (omega arith))
 
 -- the size of b, and of the weight of a pass
-first-size : (c : tie.After-size-of Inv-loop μ-loop) → c .size-of .result ≡ natAbs (c .before .before .before .args .v .b)
-first-size c = c .size-of .ensures ∙ ap natAbs (threshold-read (c .before))
+first-size : (c : tie.After-absolute Inv-loop μ-loop) → c .absolute .result ≡ natAbs (c .before .before .before .args .v .b)
+first-size c = c .absolute .ensures ∙ ap natAbs (threshold-read (c .before))
 
-next-size : (c : tie.After-size-of2 Inv-loop μ-loop)
-    → c .size-of2 .result ≡ sizeAt (start (c .before) .args .v .a) (c .before .before .before .loop .place)
-next-size c = c .size-of2 .ensures ∙ ap natAbs (weight-read (c .before))
+next-size : (c : tie.After-absolute2 Inv-loop μ-loop)
+    → c .absolute2 .result ≡ sizeAt (start (c .before) .args .v .a) (c .before .before .before .loop .place)
+next-size c = c .absolute2 .ensures ∙ ap natAbs (weight-read (c .before))
 
 -- the sum after the turn
-next-sum : (c : tie.After-size-of2 Inv-loop μ-loop)
+next-sum : (c : tie.After-absolute2 Inv-loop μ-loop)
     → let head = c .before .before .before in
     let size = sizeAt (start (c .before) .args .v .a) in
-    head .loop .sum + c .size-of2 .result ≡ head .before .size-of .result + sumBelow (head .loop .place + 1) size
+    head .loop .sum + c .absolute2 .result ≡ head .before .absolute .result + sumBelow (head .loop .place + 1) size
 next-sum c =
     let head = c .before .before .before in
     let size = sizeAt (start (c .before) .args .v .a) in
@@ -95,11 +95,11 @@ is-small-spec =
     (tie.spec
     Inv-loop
     μ-loop
-    size-of-requires
+    absolute-requires
     loop-holds
     (λ c. search needs)
     (λ c. search needs)
-    size-of-requires-2
+    absolute-requires-2
     add-sum
     (λ c. search needs)
     (λ c. search needs)

@@ -15,8 +15,6 @@ use Rattle.lanes.specs.Sums.{Doubled}
 use Rattle.lanes.proofs.DoublingLaws.{doubled-none, doubled-more}
 use Rattle.lanes.proofs.sums.double.Statement.{statement}
 use Rattle.lanes.proofs.sums.double.Tie as tie
-use Rattle.lanes.proofs.sums.double.Lts as lts
-use Rattle.lanes.proofs.sums.double.Reads as reads
 
 abbrev Inv-loop : tie.InvT-loop
 Inv-loop sums₀ from half weight at₀ sums at = (at ≤ half) × Doubled from half at (toZ w16 weight) sums₀ sums

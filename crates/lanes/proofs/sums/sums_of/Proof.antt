@@ -15,7 +15,7 @@ use Rattle.numbers.proofs.Int.{natAbs-parts, parts-sub, one-part}
 use Rattle.numbers.proofs.Widths.{size-fits}
 use Rattle.types.specs.declared.vector.Vector.{Vector}
 use Rattle.machine.proofs.DistanceLaws.{distance-zero}
-use Rattle.machine.proofs.HighestLaws.{one-shifted}
+use Rattle.numbers.proofs.PowerLaws.{one-shifted}
 use Rattle.lanes.proofs.SumsLaws.{threshold-size, weight-size}
 use Rattle.lanes.proofs.WeightLaws.{less-twice}
 use Rattle.lanes.proofs.DoublingLaws.{SumsTo, sums-to-none, sums-to-low, sums-to-high, sums-to-all, low-made, high-made}

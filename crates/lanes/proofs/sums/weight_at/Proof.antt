@@ -12,7 +12,7 @@ use mir.Facts.{toZ-ofZ}
 use Rattle.numbers.proofs.Int.{one-part, parts-sub}
 use Rattle.numbers.proofs.Widths.{fits-size, size-fits, wide-fits, wide-back}
 use Rattle.lanes.proofs.WeightLaws.{low-weight, high-weight}
-use Rattle.machine.proofs.HighestLaws.{one-shifted}
+use Rattle.numbers.proofs.PowerLaws.{one-shifted}
 use Rattle.lanes.proofs.sums.weight_at.Statement.{statement}
 use Rattle.lanes.proofs.sums.weight_at.Tie as tie
 

@@ -6,8 +6,8 @@ use native.Mathlib.Nat.{one-mul, mod-eq-of-lt}
 use native.Mathlib.Omega.{arith}
 use lib.Count.{leadingZeros, leading-top}
 use borrow.Author.Needs.{needs}
-use Rattle.machine.specs.Power.{highest}
-use Rattle.machine.proofs.HighestLaws.{highest-zero, highest-shift, highest-le}
+use Rattle.numbers.specs.Power.{highest}
+use Rattle.numbers.proofs.PowerLaws.{highest-zero, highest-shift, highest-le}
 use Rattle.machine.proofs.power.top_power.Statement.{statement}
 use Rattle.machine.proofs.power.top_power.Tie as tie
 

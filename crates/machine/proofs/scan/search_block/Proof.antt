@@ -11,7 +11,7 @@ use lib.IntN.{ℤ, pos, _+ℤ_}
 use mir.Syntax.{w32, w64}
 use mir.Val.{toZ, ofZ, SFits}
 use mir.Facts.{toZ-ofZ}
-use Rattle.table.proofs.InputLaws.{row-somewhere}
+use Rattle.table.proofs.InputLaws.{at-somewhere}
 use Rattle.numbers.specs.Tests.{firstFrom}
 use Rattle.numbers.proofs.FirstLaws.{first-at, first-fails}
 use Rattle.numbers.proofs.Int.{natAbs-parts, size-add}
@@ -112,7 +112,7 @@ returns c =
             passes = sym (row-fails (c .before)) ∙ c .if1 .taken;
             before = turn .before .before .loop .inv .2 .none-fails;
           }),
-      λ e. absurd (row-somewhere e),
+      λ e. absurd (at-somewhere e),
     )
 
 loop-again : tie.Need-loop-again Inv-loop μ-loop

@@ -1,6 +1,6 @@
 -- `moved` meets its contract: a walk of its MIR, by hand. A struct is made anew of the slice that the one passed holds, and another number.
--- The struct is Copy: what it owns is had twice, one copy is kept whole for the exit, and the other, with the facts of the number in the
--- place of at's, is what the result owns. Assumes nothing.
+-- The struct is Copy: what it owns is had twice, one copy is kept whole for the exit, and of the other what the slice owns, with the number, is
+-- what the result owns. Assumes nothing.
 use mathlib.Core.Path.{refl}
 use Prim.Native.Nat.{ℕ, _<_, _^_}
 use mathlib.Core.List.{[], _∷_}
@@ -20,19 +20,17 @@ use types.Part.{whole, sub, look-in, agg}
 use types.Run.{look, init, forget, stop, fld, from, load, of-opd, and-then, no-more, assigns, returns, enter, alloc1, alloc0, params1, pass1, pass0, free1, free0}
 use sound.WpLaws.{WpFn-mono}
 use denote.RattleType.{owns}
-use denote.Laws.{Is, Typed}
-use denote.Plain.{uint-vals, uint-tells, uint-makes}
+use denote.Laws.{Typed}
+use denote.Plain.{uint-vals, uint-tells}
 use denote.Builtin.{usize}
-use denote.Steps.{owned}
 use denote.Struct.Laws as LL
-use denote.Struct.Rest.{own-put}
 use denote.Triple.Entry.{Vals, alive, onEntry}
 use denote.Triple.Spec.{Meets, tripleOf}
 use denote.Triple.Table.{entered}
 use denote.Triple.Walked.{says, Stays, stay-none, walkOf, goes-none, ends-at, walked, walk-meets}
 use denote.Exit.{yes}
 use Rattle.readers.specs.declared.reader.Reader.{Reader}
-use Rattle.readers.proofs.reader.Held.{row, type, laws, reader-typed, reader-copy}
+use Rattle.readers.proofs.reader.Held.{row, type, laws, Src, sliceOf, reader-typed, reader-copy, reader-apart, reader-made}
 use Rattle.readers.proofs.reader.Reader.Laws as T′
 use Rattle.readers.proofs.reader.moved.Key.{name as #readers·moved}
 use Rattle.readers.proofs.reader.moved as moved
@@ -66,9 +64,8 @@ module _ {M : Type 1} (𝓤 : URA M) (H : Heap 𝓤) (A : Atoms 𝓤) (W : Given
       suffices ! _ (ends-at 𝓤 H A moved.ended stayed (moved.clauses 𝓤 H A mem run) W (((κ, tt), (q, tt), tt, (d, (n, tt)), at), tt) (T′.lowered d′) d′ (tt, (tt, tt)) (tt, (tt, tt))) $
       says ! (refl, refl) $ frame ! $ fsplit ! $ use1 W (‵ Own ⊛ ‵ Own) (reader-copy 𝓤 H A W (κ, tt) .twice d (mach ∷ [])) $ split ! $
       move ! (0 ∷ 2 ∷ []) $ fjoin ! $ frame ! $
-      -- [what the struct owns]: the number's facts take the place of at's
-      owned ! usize (Is usize) (uint-makes 𝓤 H A W w64) n _ (refl, ok) $ move ! (1 ∷ 0 ∷ []) $
-      by ! (own-put 𝓤 H A W (type (κ, tt)) (laws (κ, tt)) 1 (d .src, (d .at, tt)) n mach)
+      -- [what the struct owns]: of it what its slice owns, which with the number is what the result owns
+      use1 W (‵ (Src κ .own (d .src) (sliceOf (d .src) ∷ []))) (reader-apart 𝓤 H A W κ d) $ by ! (reader-made 𝓤 H A W κ (d .src) n ok)
 
   module _ (C : Calls 𝓤 H) (Λ : Loops 𝓤 H) where
     walk : Typed (row (κ, tt) .mir) (mach ∷ []) → ent 𝓤 (onEntry 𝓤 H A moved.signature (κ, tt) (q, tt) (d, (n, tt)) at) (WpFn 𝓤 H C Λ code.function (mach ∷ vint w64 n ∷ []) Post)

@@ -4,7 +4,7 @@ use Prim.Native.Nat.{_+_}
 use native.Mathlib.Omega.{arith}
 use borrow.Author.Needs.{needs}
 use Rattle.cell.specs.declared.refusal.Status.the-variants as Status′
-use Rattle.codec.specs.TableField.{bitBytes}
+use Rattle.table.specs.Table.{bitBytes}
 use Rattle.reading.specs.Fields.{bitsField}
 use Rattle.reading.proofs.TableLaws.{bits-short, bits-whole}
 use Rattle.reading.proofs.tables.read_bits.Statement.{statement}

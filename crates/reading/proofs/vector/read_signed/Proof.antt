@@ -77,8 +77,8 @@ module _ (c : tie.After-signed-of) where
   value-is : toZ w32 (ofZ w32 (c .signed-of .result)) ≡ c .signed-of .result
   value-is = back w32 (c .signed-of .ok)
 
-is-weight-is : (c : tie.After-is-weight) → c .is-weight .result ≡ within weightLimit (c .before .before .signed-of .result)
-is-weight-is c = c .is-weight .ensures ∙ ap (within weightLimit) (value-is (c .before .before))
+is-within-is : (c : tie.After-is-within) → c .is-within .result ≡ within weightLimit (c .before .before .signed-of .result)
+is-within-is c = c .is-within .ensures ∙ ap (within weightLimit) (value-is (c .before .before))
 
 returns-2 : tie.Need-returns-2
 returns-2 c =
@@ -87,14 +87,14 @@ returns-2 c =
     c .no-signed2 .ensures
     ∙ ap signedField
     (rule-broken 7 [] (answered (field (at .signed-of .result) (next at)))
-    (and-both (tested .before .if1 .taken) (ap not (sym (is-weight-is tested)) ∙ c .before .if2 .taken))
+    (and-both (tested .before .if1 .taken) (ap not (sym (is-within-is tested)) ∙ c .before .if2 .taken))
     ∙ passed at)
 
 -- ranges are not refused at once, or it is kept
 kept : (c : tie.Joined1) → beyond (c .before .before .before .before .before .before .args .strict) (c .before .signed-of .result) ≡ false
 kept c =
     ⊎-elim
-    (λ w. simp (← (is-weight-is record { before = record { before = c .before; if1 = w .0 }; is-weight = w .1 }), w .2 .left, and-false))
+    (λ w. simp (← (is-within-is record { before = record { before = c .before; if1 = w .0 }; is-within = w .1 }), w .2 .left, and-false))
     (λ w. simp (w .left))
     (c .if1 .came)
 

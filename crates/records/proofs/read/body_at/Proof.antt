@@ -7,6 +7,7 @@ use borrow.Author.Needs.{needs}
 use Rattle.types.specs.declared.kind.Kind.{Kind}
 use Rattle.types.specs.declared.table.Table.{Table}
 use Rattle.cell.specs.Refusal.{answered, refused}
+use Rattle.cell.proofs.TableChecked.{kept-inputs}
 use Rattle.codec.specs.Field.{Field, Reading, field, onward}
 use Rattle.codec.specs.TableField.{tableAt}
 use Rattle.codec.proofs.FieldLaws.{onward-refused, onward-read}
@@ -64,7 +65,7 @@ read-rest-requires : tie.Need-read-rest-requires
 read-rest-requires c κs =
     let told = c .before in
     let at = told .before .before in
-    table-taken (start at .args .bytes .now) (start at .args .at) (read at) (table-is told)
+    kept-inputs (read at .value) (table-taken (start at .args .bytes .now) (start at .args .at) (read at) (table-is told))
 
 returns-3 : tie.Need-returns-3
 returns-3 c =

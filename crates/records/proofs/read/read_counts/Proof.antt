@@ -1,6 +1,6 @@
 -- `records::read::read_counts` meets its contract: the row list by `read_rows`, whether it kept its ranges, and whether the job is sound.
 -- Assumes nothing.
-use mathlib.Core.Path.{_≡_, sym, _∙_, ap, ap₂, subst}
+use mathlib.Core.Path.{_≡_, sym, _∙_, ap, ap₂}
 use mathlib.Core.Bool.{Bool, true, false, not, _&&_}
 use mathlib.Core.List.{[], _∷_}
 use Prim.Native.Nat.{ℕ}
@@ -8,14 +8,13 @@ use native.Mathlib.Omega.{arith}
 use borrow.Author.Needs.{needs}
 use borrow.Author.Tests.{not-false, not-true}
 use Rattle.types.specs.declared.table.Table.{Table}
-use Rattle.table.specs.Table.{rows}
+use Rattle.table.specs.Table.{rows, functionOf}
 use Rattle.table.proofs.TableLaws.{rows-le}
-use Rattle.cell.specs.Refusal.{rule, answered, checked, NoneBroken}
-use Rattle.cell.specs.Calls.{tableRules}
+use Rattle.cell.specs.Refusal.{rule, answered, checked}
 use Rattle.cell.proofs.RefusalLaws.{rule-broken, rule-kept}
-use Rattle.cell.proofs.TableChecked.{kept-inputs}
 use Rattle.types.specs.declared.vector.Vector.{Vector}
 use Rattle.job.specs.declared.job.Job.{Job}
+use Rattle.state.specs.Sound as S
 use Rattle.job.specs.Sound.{isSound}
 use Rattle.codec.specs.Field.{Reading, field}
 use Rattle.codec.specs.RowList.{RowList, rowListAt}
@@ -23,7 +22,7 @@ use Rattle.rowlists.specs.declared.read.RowsField.{RowsField}
 use Rattle.rowlists.specs.Fields.{rowsField}
 use Rattle.rowlists.proofs.FieldFacts.{rows-refused, rows-done}
 use Rattle.records.specs.Record.{Record, ofJob, openJob, unsoundJob, countsAt}
-use Rattle.records.specs.Calls.{asRead, asBody}
+use Rattle.records.specs.Calls.{asBody}
 use Rattle.codec.proofs.FieldLaws.{onward-refused, onward-read}
 use Rattle.records.proofs.read.read_counts.Statement.{statement}
 use Rattle.records.proofs.read.read_counts.Tie as tie
@@ -37,12 +36,11 @@ tested t k v w list next =
 -- ---- the row list
 
 rows-of-requires : tie.Need-rows-of-requires
-rows-of-requires c κs = kept-inputs _ (c .before .pre)
+rows-of-requires c κs = search needs
 
 read-rows-requires : tie.Need-read-rows-requires
 read-rows-requires c κs =
-    let few = kept-inputs (c .before .before .args .table) (c .before .before .pre) in
-    omega (arith, c .rows-of .ensures, rows-le few)
+    omega (arith, c .rows-of .ensures, rows-le (c .before .before .pre))
 
 no-body-requires : tie.Need-no-body-requires
 no-body-requires c κs = search needs
@@ -93,13 +91,13 @@ returns-2 c =
     c .no-body2 .ensures ∙ passed at (rule-broken 9 [] (answered (field (ofJob (job at)) (read at .next))) (ap (λ (b : Bool). not (b && isSound (job at))) broken))
 
 is-sound-requires : tie.Need-is-sound-requires
-is-sound-requires c κs =
-    let at = c .before .before in
-    subst (λ (j : Job). NoneBroken (tableRules (j .table) [])) (sym (at .open-job .ensures)) (start at .pre)
+is-sound-requires c κs = search needs
 
 -- whether the job is sound, and what the list and the job together come to
 sound-is : (c : tie.After-is-sound) → c .is-sound .result ≡ isSound (job (c .before .before .before))
-sound-is c = c .is-sound .ensures ∙ ap isSound (c .before .before .before .open-job .ensures)
+sound-is c =
+    let at = c .before .before .before in
+    c .is-sound .ensures ∙ ap (λ (j : Job). S.isSound (functionOf (start at .args .table)) (j .state)) (at .open-job .ensures)
 
 kept-is : (c : tie.After-is-sound) → (read (c .before .before .before) .kept && isSound (job (c .before .before .before))) ≡ c .is-sound .result
 kept-is c =
@@ -118,7 +116,8 @@ returns-4 : tie.Need-returns-4
 returns-4 c =
     let tested = c .before .before in
     let at = tested .before .before .before in
-    (λ i. record { read = (c .with-job .ensures ∙ ap (λ (j : Job). asRead (answered (ofJob j))) (at .open-job .ensures)) i; next = read at .next })
+    (λ i. let r = c .bare .ensures i in
+    record { read = record { kind = r .kind; table = r .table; gate = r .gate; witness = r .witness; job = at .open-job .ensures i }; next = read at .next })
     ∙ passed at (rule-kept 9 [] (answered (field (ofJob (job at)) (read at .next))) (ap not (kept-is tested) ∙ c .before .if2 .left))
 
 pub read-counts-spec : {M : Type 1} → statement M

@@ -34,9 +34,11 @@ enum-told c = search needs
 
 returns-2 : tie.Need-returns-2
 returns-2 c =
-    let told = c .before in
+    let zeros = c .before in
+    let told = zeros .before in
     let at = told .before .before in
-    (λ i. record { read = c .with-gate .ensures i; next = at .read-vector .result .next })
+    (λ i. let r = zeros .bare .ensures i in
+    record { read = record { kind = r .kind; table = r .table; gate = c .vector-gate .ensures i; witness = r .witness; job = r .job }; next = at .read-vector .result .next })
     ∙ ap asBody (onward-read (read at) (made (at .before .before .args .table)) (vector-done (read at) (at .read-vector .ensures) (told .enum-told .given .1)))
 
 pub read-gate-spec : {M : Type 1} → statement M
@@ -48,5 +50,6 @@ read-gate-spec =
     (λ c κs. search needs)
     returns
     enum-told
+    (λ c κs. search needs)
     (λ c κs. search needs)
     returns-2)

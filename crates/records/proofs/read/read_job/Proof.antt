@@ -6,7 +6,6 @@ use mathlib.Core.List.{List}
 use Prim.Native.Nat.{ℕ}
 use borrow.Author.Needs.{needs}
 use Rattle.types.specs.declared.table.Table.{Table}
-use Rattle.cell.proofs.TableChecked.{kept-inputs}
 use Rattle.types.specs.declared.vector.Vector.{Vector}
 use Rattle.codec.specs.Field.{Reading, onward}
 use Rattle.codec.specs.Number.{numberAt}
@@ -72,7 +71,7 @@ module _ (c : tie.After-enum-told) where
 -- ---- v
 
 read-vector-requires : tie.Need-read-vector-requires
-read-vector-requires c κs = kept-inputs (table c) (at-number c .before .before .pre)
+read-vector-requires c κs = at-number c .before .before .pre
 
 returns-2 : tie.Need-returns-2
 returns-2 c =
@@ -105,7 +104,7 @@ module _ (c : tie.After-enum-told2) where
 -- ---- s
 
 read-vector-requires-2 : tie.Need-read-vector-requires-2
-read-vector-requires-2 c κs = kept-inputs (table (told c)) (at-number (told c) .before .before .pre)
+read-vector-requires-2 c κs = at-number (told c) .before .before .pre
 
 module _ (c : tie.After-enum-told2) where
   abbrev last : Reading Vector

@@ -2,7 +2,6 @@
 use mathlib.Core.Path.{_≡_, sym, _∙_, ap}
 use borrow.Author.Needs.{needs}
 use Rattle.types.specs.declared.kind.Kind.{Kind}
-use Rattle.cell.proofs.TableChecked.{kept-inputs}
 use Rattle.records.specs.declared.read.Body.{Body}
 use Rattle.records.specs.Calls.{asBody, restBy}
 use Rattle.records.proofs.read.read_rest.Statement.{statement}
@@ -12,12 +11,6 @@ use Rattle.records.proofs.read.read_rest.Tie as tie
 by-kind : {k known : Kind} (a : tie.Start) {r : Body} → r ≡ asBody (restBy known (a .args .table) (a .args .bytes .now) (a .args .at)) → k ≡ known
     → r ≡ asBody (restBy k (a .args .table) (a .args .bytes .now) (a .args .at))
 by-kind a e same = e ∙ ap (λ (k : Kind). asBody (restBy k (a .args .table) (a .args .bytes .now) (a .args .at))) (sym same)
-
-read-gate-requires : tie.Need-read-gate-requires
-read-gate-requires c κs = let a = c .before .before .before in kept-inputs (a .args .table) (a .pre)
-
-read-witness-requires : tie.Need-read-witness-requires
-read-witness-requires c κs = let a = c .before .before .before in kept-inputs (a .args .table) (a .pre)
 
 returns : tie.Need-returns
 returns c =
@@ -43,9 +36,9 @@ read-rest-spec =
     (λ c. search needs)
     (λ c κs. search needs)
     (λ c. search needs)
-    read-gate-requires
+    (λ c κs. search needs)
     (λ c. search needs)
-    read-witness-requires
+    (λ c κs. search needs)
     (λ c. search needs)
     (λ c κs. search needs)
     (λ c. search needs)

@@ -50,7 +50,11 @@ returns-2 : tie.Need-returns-2
 returns-2 c =
     let told = c .before .before in
     let at = told .before .before in
-    (λ i. record { read = c .with-witness .ensures i; next = at .read-rows .result .next })
+    (λ i. let r = c .bare .ensures i in
+    record {
+      read = record { kind = r .kind; table = r .table; gate = r .gate; witness = record { counts = at .read-rows .result .counts }; job = r .job };
+      next = at .read-rows .result .next;
+    })
     ∙ ap asBody (onward-read (list at) (made (table at)) (rows-done (list at) (list-is at) (told .enum-told .given .1)))
 
 pub read-witness-spec : {M : Type 1} → statement M

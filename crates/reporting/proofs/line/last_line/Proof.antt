@@ -8,7 +8,7 @@ use borrow.Author.Needs.{needs}
 use Rattle.text.specs.Text.{decimal, spaced, lineFeed}
 use Rattle.reporting.specs.Lines.{meanText, lastLine}
 use Rattle.text.proofs.FieldWriting.{Left, all-left, next-room, next-left, line-done}
-use Rattle.reporting.proofs.RoomLaws.{last-room}
+use Rattle.reporting.proofs.RoomLaws.{number-room, last-room}
 use Rattle.reporting.proofs.line.last_line.Statement.{statement}
 use Rattle.reporting.proofs.line.last_line.Tie as tie
 
@@ -64,7 +64,7 @@ at-gates c = next-left (records (start-of c)) (from-gates (start-of c)) (at-reco
 put-number-requires : tie.Need-put-number-requires
 put-number-requires c κs =
     let put = c .before .before .before in
-    next-room (gates (start-of put)) (from-witnesses (start-of put)) (at-gates put)
+    number-room _ (at-gates put) (start-of put .pre .1) (last-room (start-of put .args .tally))
 
 abbrev start-of1 : tie.After-put-number → tie.Start
 start-of1 c = start-of (c .before .before .before .before)
@@ -75,18 +75,18 @@ at-witnesses c = next-left (gates (start-of1 c)) (from-witnesses (start-of1 c)) 
 put-number-requires-2 : tie.Need-put-number-requires-2
 put-number-requires-2 c κs =
     let put = c .before .before .before in
-    next-room (witnesses (start-of1 put)) (from-opens (start-of1 put)) (at-witnesses put)
+    number-room _ (at-witnesses put) (start-of1 put .pre .1) (last-room (start-of1 put .args .tally))
 
 abbrev start-of2 : tie.After-put-number2 → tie.Start
 start-of2 c = start-of1 (c .before .before .before .before)
 
 at-opens : (c : tie.After-put-number2) → LineLeft (start-of2 c) (c .put-number2 .last .0) (c .put-number2 .result) (from-opens (start-of2 c))
-at-opens c = next-left (witnesses (start-of2 c)) (from-opens (start-of2 c)) (at-witnesses (c .before .before .before .before)) (c .put-number2 .ensures)
+at-opens c = next-left (witnesses (start-of2 c)) (from-opens (start-of2 c)) (at-witnesses (c .before .before .before .before)) {last = c .put-number2 .last .0} (c .put-number2 .ensures)
 
 put-number-requires-3 : tie.Need-put-number-requires-3
 put-number-requires-3 c κs =
     let put = c .before .before .before in
-    next-room (opens (start-of2 put)) (from-space (start-of2 put)) (at-opens put)
+    number-room _ (at-opens put) (start-of2 put .pre .1) (last-room (start-of2 put .args .tally))
 
 abbrev start-of3 : tie.After-put-number3 → tie.Start
 start-of3 c = start-of2 (c .before .before .before .before)
@@ -123,7 +123,7 @@ returns : tie.Need-returns
 returns c =
     let end = c .before .before in
     let put = end .before .before .before .before in
-    line-done (at-end put) (end .put-byte2 .ensures) (last-room (start-of4 (put .before .before .before .before) .args .tally))
+    line-done (at-end put) (end .put-byte2 .ensures) (omega (arith, last-room (start-of4 (put .before .before .before .before) .args .tally)))
 
 pub last-line-spec : {M : Type 1} → statement M
 last-line-spec =

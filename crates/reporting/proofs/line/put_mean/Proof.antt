@@ -24,50 +24,53 @@ returns c = let put = c .before .before in rw (put .before .before .if1 .taken) 
 
 -- ---- a mean
 
--- the fields
-abbrev whole : tie.Start → List ℕ
-whole s = decimal (meanTenths (s .args .gates) (s .args .sum) / 10)
-
 abbrev point : List ℕ
 point = 46 ∷ []
 
-abbrev tenths : tie.Start → List ℕ
-tenths s = decimal (meanTenths (s .args .gates) (s .args .sum) % 10)
+mean-parts : (gates sum x : ℕ) → 0 < gates → x ≡ meanTenths gates sum → meanText gates sum ≡ decimal (x / 10) ++ (point ++ decimal (x % 10))
+mean-parts zero sum x h e = absurd (omega arith)
+mean-parts (suc gates) sum x h e = rw e refl
+
+mean-tenths-requires : tie.Need-mean-tenths-requires
+mean-tenths-requires c κs = let s = c .before .before in (omega arith, s .pre .0, s .pre .1)
+
+-- the fields
+abbrev start-of : tie.After-mean-tenths → tie.Start
+start-of c = c .before .before .before
+
+abbrev whole : tie.After-mean-tenths → List ℕ
+whole c = decimal (c .mean-tenths .result / 10)
+
+abbrev tenths : tie.After-mean-tenths → List ℕ
+tenths c = decimal (c .mean-tenths .result % 10)
 
 -- what is left at each position
-abbrev MeanLeft : tie.Start → List ℕ → ℕ → List ℕ → Type 0
-MeanLeft s out here rest = Left (now (s .args .out)) (s .args .at) (meanText (s .args .gates) (s .args .sum)) out here rest
+abbrev MeanLeft : tie.After-mean-tenths → List ℕ → ℕ → List ℕ → Type 0
+MeanLeft c out here rest = let a = start-of c .args in Left (now (a .out)) (a .at) (meanText (a .gates) (a .sum)) out here rest
 
-mean-parts : (gates sum : ℕ) → 0 < gates → meanText gates sum ≡ decimal (meanTenths gates sum / 10) ++ (point ++ decimal (meanTenths gates sum % 10))
-mean-parts zero sum h = absurd (omega arith)
-mean-parts (suc gates) sum h = refl
-
-at-whole : (c : tie.Else1) → MeanLeft (c .before .before) (now (c .before .before .args .out)) (c .before .before .args .at) (whole (c .before .before) ++ (point ++ tenths (c .before .before)))
+at-whole : (c : tie.After-mean-tenths) → MeanLeft c (now (start-of c .args .out)) (start-of c .args .at) (whole c ++ (point ++ tenths c))
 at-whole c =
-    let s = c .before .before in
-    rw (← mean-parts (s .args .gates) (s .args .sum) (omega arith)) (all-left (now (s .args .out)) (s .args .at) (meanText (s .args .gates) (s .args .sum)) (s .pre .2))
+    let s = start-of c in
+    let parts = mean-parts (s .args .gates) (s .args .sum) (c .mean-tenths .result) (omega arith) (c .mean-tenths .ensures) in
+    rw (← parts) (all-left (now (s .args .out)) (s .args .at) (meanText (s .args .gates) (s .args .sum)) (s .pre .2))
 
 put-decimal-requires : tie.Need-put-decimal-requires
-put-decimal-requires c κs =
-    let s = c .before .before .before in
-    next-room (whole s) (point ++ tenths s) (at-whole (c .before))
+put-decimal-requires c κs = let mean = c .before in next-room (whole mean) (point ++ tenths mean) (at-whole mean)
 
-at-point : (c : tie.After-put-decimal)
-    → MeanLeft (c .before .before .before .before) (c .put-decimal .last .0) (c .put-decimal .result) (point ++ tenths (c .before .before .before .before))
-at-point c =
-    let s = c .before .before .before .before in
-    next-left (whole s) (point ++ tenths s) (at-whole (c .before .before)) (c .put-decimal .ensures)
+abbrev mean-of : tie.After-put-decimal → tie.After-mean-tenths
+mean-of c = c .before .before
+
+at-point : (c : tie.After-put-decimal) → MeanLeft (mean-of c) (c .put-decimal .last .0) (c .put-decimal .result) (point ++ tenths (mean-of c))
+at-point c = let mean = mean-of c in next-left (whole mean) (point ++ tenths mean) (at-whole mean) (c .put-decimal .ensures)
 
 put-byte-requires-2 : tie.Need-put-byte-requires-2
-put-byte-requires-2 c κs =
-    let put = c .before .before .before in
-    next-room point (tenths (put .before .before .before .before)) (at-point put)
+put-byte-requires-2 c κs = let put = c .before .before .before in next-room point (tenths (mean-of put)) (at-point put)
 
-abbrev start-of : tie.After-put-byte2 → tie.Start
-start-of c = c .before .before .before .before .before .before .before .before
+abbrev mean-of2 : tie.After-put-byte2 → tie.After-mean-tenths
+mean-of2 c = mean-of (c .before .before .before .before)
 
-at-tenths : (c : tie.After-put-byte2) → MeanLeft (start-of c) (c .put-byte2 .last .0) (c .put-byte2 .result) (tenths (start-of c))
-at-tenths c = next-left point (tenths (start-of c)) (at-point (c .before .before .before .before)) (c .put-byte2 .ensures)
+at-tenths : (c : tie.After-put-byte2) → MeanLeft (mean-of2 c) (c .put-byte2 .last .0) (c .put-byte2 .result) (tenths (mean-of2 c))
+at-tenths c = next-left point (tenths (mean-of2 c)) (at-point (c .before .before .before .before)) (c .put-byte2 .ensures)
 
 put-decimal-requires-2 : tie.Need-put-decimal-requires-2
 put-decimal-requires-2 c κs = at-tenths (c .before .before .before) .room
@@ -84,10 +87,7 @@ put-mean-spec =
     put-byte-requires
     (λ c. search needs)
     returns
-    (λ c. search needs)
-    (λ c. search needs)
-    (λ c. search needs)
-    (λ c. search needs)
+    mean-tenths-requires
     put-decimal-requires
     put-byte-requires-2
     put-decimal-requires-2

@@ -7,7 +7,7 @@ use borrow.Author.Needs.{needs}
 use Rattle.text.specs.Text.{decimal, spaced, lineFeed}
 use Rattle.reporting.specs.Lines.{refusalLine}
 use Rattle.text.proofs.FieldWriting.{Left, all-left, next-room, next-left, line-done}
-use Rattle.reporting.proofs.RoomLaws.{refusal-room}
+use Rattle.reporting.proofs.RoomLaws.{number-room, refusal-room}
 use Rattle.reporting.proofs.line.refusal_line.Statement.{statement}
 use Rattle.reporting.proofs.line.refusal_line.Tie as tie
 
@@ -52,12 +52,13 @@ at-number c = next-left letter (number-text (start-of c) ++ lineFeed) (at-letter
 put-number-requires : tie.Need-put-number-requires
 put-number-requires c κs =
     let put = c .before .before .before in
-    next-room (number-text (start-of put)) lineFeed (at-number put)
+    let s = start-of put in
+    number-room _ (at-number put) (s .pre) (refusal-room (s .args .position) (s .args .number))
 
 at-end : (c : tie.After-put-number) → LineLeft (start-of (c .before .before .before .before)) (c .put-number .last .0) (c .put-number .result) lineFeed
 at-end c =
     let put = c .before .before .before .before in
-    next-left (number-text (start-of put)) lineFeed (at-number put) (c .put-number .ensures)
+    next-left (number-text (start-of put)) lineFeed (at-number put) {last = c .put-number .last .0} (c .put-number .ensures)
 
 put-byte-requires : tie.Need-put-byte-requires
 put-byte-requires c κs = at-end (c .before .before .before) .room
@@ -67,7 +68,7 @@ returns c =
     let end = c .before .before in
     let put = end .before .before .before .before in
     let a = start-of (put .before .before .before .before) .args in
-    line-done (at-end put) (end .put-byte .ensures) (refusal-room (a .position) (a .number))
+    line-done (at-end put) (end .put-byte .ensures) (omega (arith, refusal-room (a .position) (a .number)))
 
 pub refusal-line-spec : {M : Type 1} → statement M
 refusal-line-spec =

@@ -4,13 +4,13 @@ use mir.Syntax.{w64}
 use borrow.Author.Needs.{needs}
 use Rattle.numbers.proofs.Int.{back}
 use Rattle.cell.specs.declared.refusal.Answer.{Answer}
-use Rattle.results.specs.Result.{resultOf}
+use Rattle.results.specs.Result.{asResult, said, saidBy}
 use Rattle.results.proofs.result.yes_or_no.Statement.{statement}
 use Rattle.results.proofs.result.yes_or_no.Tie as tie
 
 -- the number of an answer that is known
-known : {a b : Answer} → a ≡ b → resultOf b ≡ resultOf a
-known e = ap resultOf (sym e)
+known : {a b : Answer} → a ≡ b → asResult (said (saidBy b)) ≡ asResult (said (saidBy a))
+known e = ap (λ (a : Answer). asResult (said (saidBy a))) (sym e)
 
 returns : tie.Need-returns
 returns c = known (c .enum-told .given .1)

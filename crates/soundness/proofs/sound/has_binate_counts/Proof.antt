@@ -3,7 +3,7 @@ use mathlib.Core.Path.{_≡_, sym, _∙_, ap}
 use mathlib.Core.Option.{Option, some}
 use Prim.Native.Nat.{ℕ}
 use Rattle.function.proofs.BinateLaws.{binate-place-lt}
-use Rattle.table.specs.Witness.{sameCounts}
+use Rattle.function.specs.Witness.{sameCounts}
 use Rattle.table.proofs.InputLaws.{lowest-some, lowest-none}
 use Rattle.function.specs.Binate.{binatePlace}
 use Rattle.state.specs.Sound.{isBinateWith}

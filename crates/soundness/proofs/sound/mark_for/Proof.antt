@@ -2,8 +2,8 @@
 use mathlib.Core.Path.{_≡_, sym, _∙_, ap}
 use Prim.Native.Nat.{ℕ, _-_}
 use borrow.Author.Needs.{needs}
-use Rattle.machine.specs.Power.{highest}
-use Rattle.machine.proofs.HighestLaws.{highest-zero}
+use Rattle.numbers.specs.Power.{highest}
+use Rattle.numbers.proofs.PowerLaws.{highest-zero}
 use Rattle.types.specs.declared.stage.Stage.{Stage}
 use Rattle.types.specs.declared.stage.Stage.the-variants.{Open, Found, Looped, Binate}
 use Rattle.state.specs.Sound.{markFor}

@@ -2,8 +2,8 @@
 -- Assumes nothing.
 use mathlib.Core.Path.{_∙_, ap}
 use borrow.Author.Needs.{needs}
-use Rattle.table.specs.Inputs.{isRow}
-use Rattle.table.proofs.InputLaws.{is-row-lowest}
+use Rattle.table.specs.Inputs.{isFound}
+use Rattle.table.proofs.InputLaws.{is-found-lowest}
 use Rattle.function.specs.Failing.{failing}
 use Rattle.state.proofs.SoundBounds.{in-range-search}
 use Rattle.table.specs.Table.{functionOf}
@@ -21,7 +21,7 @@ first-failing-requires c κs =
 returns : tie.Need-returns
 returns c =
     let a = c .before .before .before .before .before .args in
-    c .is-row .ensures ∙ ap isRow (c .before .first-failing .ensures) ∙ is-row-lowest (failing (functionOf (a .table)) (a .state .v))
+    c .is-found .ensures ∙ ap isFound (c .before .first-failing .ensures) ∙ is-found-lowest (failing (functionOf (a .table)) (a .state .v))
 
 pub some-fails-spec : {M : Type 1} → statement M
 some-fails-spec =

@@ -11,7 +11,8 @@ use Rattle.function.specs.Binate.{binatePlace}
 use Rattle.types.specs.declared.stage.Stage.the-variants as Stage′
 use Rattle.state.specs.Machine.{startState}
 use Rattle.state.proofs.MachineLaws.{fresh-binate}
-use Rattle.state.proofs.FreshSound.{table-fresh-open}
+use Rattle.table.proofs.OnTables.{zero-failing}
+use Rattle.state.proofs.MachineLaws.{fresh-open}
 use Rattle.table.specs.Table.{functionOf}
 use Rattle.stepping.proofs.start.fresh_state.Statement.{statement}
 use Rattle.stepping.proofs.start.fresh_state.Tie as tie
@@ -26,7 +27,7 @@ returns : tie.Need-returns
 returns c =
     let at = c .before .before .before in
     let t = at .before .args .table in
-    c .start-state .ensures ∙ sym (table-fresh-open t (lowest-none (binatePlace (functionOf t)) (sym (at .binate-place .ensures) ∙ c .before .enum-told .given .1)))
+    c .start-state .ensures ∙ sym (fresh-open (functionOf t) 0 (lowest-none (binatePlace (functionOf t)) (sym (at .binate-place .ensures) ∙ c .before .enum-told .given .1)) (zero-failing t))
 
 -- the table, and the place that was found
 abbrev table : tie.After-known-told → Table

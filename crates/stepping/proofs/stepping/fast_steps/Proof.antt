@@ -1,6 +1,6 @@
 -- `stepping::stepping::fast_steps` meets its contract. The loop's invariant: the state is the machine's but for the steps that are left (`Left` of
 -- LeftLaws). The measure is what is left. Assumes nothing.
-use mathlib.Core.Path.{_≡_}
+use mathlib.Core.Path.{_≡_, refl}
 use mathlib.Core.Logic.{⊎-elim}
 use Prim.Native.Nat.{_≤_, _<_}
 use native.Mathlib.Omega.{arith}
@@ -8,7 +8,7 @@ use Rattle.lanes.specs.Sums.{magnitude}
 use Rattle.types.specs.declared.stage.Stage.the-variants.{Open}
 use Rattle.chunks.specs.Core.{stateOf}
 use Rattle.state.specs.Sound.{Sound}
-use Rattle.state.proofs.SoundBounds.{in-range-search, table-current, table-copied}
+use Rattle.state.proofs.SoundBounds.{in-range-search, unit-current, unit-copied}
 use Rattle.stepping.proofs.LeftLaws.{Left, left-start, left-next, left-sound, left-capped}
 use Rattle.table.specs.Table.{functionOf}
 use Rattle.stepping.proofs.stepping.fast_steps.Statement.{statement}
@@ -31,8 +31,8 @@ is-fast-requires : tie.Need-is-fast-requires Inv-loop μ-loop
 is-fast-requires c κs =
     let core = c .loop .core in
     let n = c .before .args .table .n in (
-      in-range-search (core .k) n (core .v .a) (core .v .b) (sound c .capped) (table-current (c .before .args .table) (sound c)),
-      in-range-search (core .k) n (core .s .a) (core .s .b) (sound c .capped) (table-copied (c .before .args .table) (sound c)),
+      in-range-search (core .k) n (core .v .a) (core .v .b) (sound c .capped) (unit-current refl (sound c)),
+      in-range-search (core .k) n (core .s .a) (core .s .b) (sound c .capped) (unit-copied refl (sound c)),
     )
 
 -- what the fast form asks of the loop's state

@@ -12,7 +12,7 @@ use borrow.Author.Needs.{needs}
 use borrow.Author.Tests.{eq-eqb, ne-eqb}
 use Rattle.numbers.proofs.TabulateLaws.{getD-tabulate}
 use Rattle.table.specs.declared.inputs.Lowest.{Lowest}
-use Rattle.table.specs.declared.inputs.Lowest.the-variants.{Row}
+use Rattle.table.specs.declared.inputs.Lowest.the-variants.{At}
 use Rattle.table.specs.Table.{value, functionOf}
 use Rattle.table.specs.Inputs.{lowestOf}
 use Rattle.table.proofs.TableLaws.{rows-le}
@@ -22,7 +22,7 @@ use Rattle.types.specs.declared.state.State.{State}
 use Rattle.state.specs.Machine.{run}
 use Rattle.state.specs.Sound.{cap}
 use Rattle.state.proofs.MachineLaws.{marked-power, marked-other}
-use Rattle.state.proofs.StandsLaws.{Stands, stands-start, stands-found, stands-row, stands-open, stands-looped, moved, stands-next, Bounded, stands-bounded}
+use Rattle.chunks.proofs.StandsLaws.{Stands, stands-start, stands-found, stands-row, stands-open, stands-looped, moved, stands-next, Bounded, stands-bounded}
 use Rattle.stepping.proofs.stepping.plain_steps.Statement.{statement}
 use Rattle.stepping.proofs.stepping.plain_steps.Tie as tie
 
@@ -92,7 +92,7 @@ head c = c .before .before .before .before
 abbrev row : tie.After-known-told Inv-loop μ-loop → ℕ
 row c = c .before .next .given .0 .0
 
-row-found : (c : tie.After-known-told Inv-loop μ-loop) → lowestOf (failing (functionOf (table (head c))) (head c .loop .j .v)) ≡ Row (row c)
+row-found : (c : tie.After-known-told Inv-loop μ-loop) → lowestOf (failing (functionOf (table (head c))) (head c .loop .j .v)) ≡ At (row c)
 row-found c = sym (head c .loop .inv .search) ∙ c .before .next .given .1
 
 -- it is one of the 256

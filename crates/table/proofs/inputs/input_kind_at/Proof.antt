@@ -2,9 +2,9 @@
 use mathlib.Core.Path.{sym, _∙_, ap, ap₂}
 use mathlib.Core.Bool.{true, false}
 use borrow.Author.Needs.{needs}
-use Rattle.table.specs.Inputs.{isRow, kindBy}
+use Rattle.table.specs.Inputs.{isFound, kindBy}
 use Rattle.function.specs.Turns.{firstTurn}
-use Rattle.table.proofs.InputLaws.{is-row-lowest, input-kind-at-inside, input-kind-at-past}
+use Rattle.table.proofs.InputLaws.{is-found-lowest, input-kind-at-inside, input-kind-at-past}
 use Rattle.table.specs.Table.{functionOf}
 use Rattle.table.proofs.inputs.input_kind_at.Statement.{statement}
 use Rattle.table.proofs.inputs.input_kind_at.Tie as tie
@@ -22,8 +22,8 @@ returns-2 c =
     let falls = firstTurn (functionOf (a .table)) false (a .place) in
     c .kind-by .ensures
     ∙ ap₂ kindBy
-    (at-rises .is-row .ensures ∙ ap isRow (at-rises .before .first-turn .ensures) ∙ is-row-lowest rises)
-    (at-falls .is-row2 .ensures ∙ ap isRow (at-falls .before .first-turn2 .ensures) ∙ is-row-lowest falls)
+    (at-rises .is-found .ensures ∙ ap isFound (at-rises .before .first-turn .ensures) ∙ is-found-lowest rises)
+    (at-falls .is-found2 .ensures ∙ ap isFound (at-falls .before .first-turn2 .ensures) ∙ is-found-lowest falls)
     ∙ sym (input-kind-at-inside (a .table) (a .place) (inside .if1 .left))
 
 pub input-kind-at-spec : {M : Type 1} → statement M

@@ -10,7 +10,7 @@ use lib.ListN.{getD}
 use borrow.Author.Tests.{eq-eqb, ne-eqb}
 use Rattle.numbers.specs.Tests.{allBelow}
 use Rattle.numbers.proofs.TestLaws.{all-below-zero, all-below-more, all-below-fails}
-use Rattle.table.specs.Witness.{sameCounts}
+use Rattle.function.specs.Witness.{sameCounts}
 use Rattle.table.proofs.witness.same_counts.Statement.{statement}
 use Rattle.table.proofs.witness.same_counts.Tie as tie
 

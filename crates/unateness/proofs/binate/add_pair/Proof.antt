@@ -5,7 +5,7 @@ use Prim.Native.Nat.{ℕ, _+_, _*_, _%_, _^_, _<_}
 use native.Mathlib.Omega.{arith}
 use borrow.Author.Needs.{needs}
 use Rattle.table.proofs.InputLaws.{lowest-some}
-use Rattle.machine.proofs.HighestLaws.{one-shifted}
+use Rattle.numbers.proofs.PowerLaws.{one-shifted}
 use Rattle.unateness.proofs.BinateLaws.{pair-more-nowhere}
 use Rattle.function.proofs.CountLaws.{one-more-le}
 use Rattle.unateness.proofs.binate.add_pair.Statement.{statement}

@@ -15,7 +15,7 @@ use Rattle.function.specs.Function.{level}
 use Rattle.table.proofs.TableLaws.{level-lt, partner-below}
 use Rattle.unateness.specs.declared.words.Pairs.{Pairs}
 use Rattle.unateness.specs.Words.{wordOf}
-use Rattle.machine.proofs.HighestLaws.{one-shifted}
+use Rattle.numbers.proofs.PowerLaws.{one-shifted}
 use Rattle.unateness.proofs.PairLaws.{own-within, partner-within, own-across, partner-across, pairs-none}
 use Rattle.unateness.proofs.words.pairs_at.Statement.{statement}
 use Rattle.unateness.proofs.words.pairs_at.Tie as tie

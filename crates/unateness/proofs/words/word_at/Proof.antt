@@ -3,7 +3,7 @@ use mathlib.Core.Path.{_∙_, ap₂}
 use Prim.Native.Nat.{_*_, _-_, _%_}
 use native.Mathlib.Omega.{arith}
 use lib.Pow.{pow-pos}
-use Rattle.machine.proofs.HighestLaws.{one-shifted}
+use Rattle.numbers.proofs.PowerLaws.{one-shifted}
 use Rattle.unateness.proofs.PairLaws.{word-past, word-whole, word-cut}
 use borrow.Author.Needs.{needs}
 use Rattle.unateness.proofs.words.word_at.Statement.{statement}

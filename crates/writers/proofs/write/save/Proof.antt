@@ -1,111 +1,45 @@
--- `writers::write::save` meets its contract: the job's rules by `job_status`, that it has not ended, the room, and the bytes.
--- Assumes nothing.
-use mathlib.Core.Path.{_≡_, sym, _∙_}
-use mathlib.Core.List.{List, [], _∷_}
-use Prim.Native.Nat.{ℕ, _≤_}
+-- `writers::write::save` meets its contract: the law of a call that writes, at an open job. Assumes nothing.
+use mathlib.Core.List.{[]}
 use native.Mathlib.Omega.{arith}
-use lib.ListN.{length}
 use borrow.Author.Needs.{needs}
-use Rattle.cell.specs.Refusal.{Rule, Answered, answered, checked}
-use Rattle.cell.proofs.RefusalLaws.{rule-broken, rule-kept}
-use Rattle.job.specs.declared.job.Job.{Job}
-use Rattle.job.proofs.JobChecked.{job-refused, job-passed, job-inputs, job-sound}
-use Rattle.records.specs.Record.{Record, ofJob, recordBytes}
-use Rattle.writers.specs.Calls.{hasEnded, tooShort, writeRecord}
-use Rattle.job.proofs.MachineLaws.{open-stage}
-use Rattle.writers.proofs.WriteLaws.{write-refused, write-answered, roomed, no-room, with-room}
+use Rattle.records.specs.Record.{ofJob}
+use Rattle.writers.proofs.KeptLaws.{kept-job, kept-open}
+use Rattle.writers.proofs.WriteLaws.{Passed, write-refused, write-passed, size-most, write-short, body-room, write-body}
 use Rattle.writers.proofs.write.save.Statement.{statement}
 use Rattle.writers.proofs.write.save.Tie as tie
-
--- ---- the job's rules
-
-module _ (c : tie.Start) where
-  abbrev job : Job
-  job = c .args .job
-
-  abbrev old : List ℕ
-  old = c .args .out .now
-
-  abbrev x : Record
-  x = ofJob job
-
-  -- the rules after the job's, and the last of them
-  abbrev last : List Rule
-  last = tooShort (length old) (recordBytes x) ∷ []
-
-  abbrev others : List Rule
-  others = hasEnded job ∷ last
-
-  abbrev bytes : Answered (List ℕ)
-  bytes = answered (recordBytes x)
 
 returns : tie.Need-returns
 returns c =
     let at = c .before .before .before in
-    let s = at .before .before in
-    write-refused (x s) (old s) (job-refused (job s) (at .job-status .ensures) (others s) (bytes s) (c .before .status .given .1))
+    let a = at .before .before .args in
+    write-refused (ofJob (a .job)) (a .out .now) (at .save-status .ensures) (c .before .status .given .1)
 
-enum-told : tie.Need-enum-told
-enum-told c = search needs
-
-module _ (c : tie.After-enum-told) where
-  abbrev start : tie.Start
-  start = c .before .before .before .before
-
-  past-job : {next : Answered (List ℕ)} → next ≡ checked (others start) (bytes start) → next ≡ writeRecord (x start) (length (old start))
-  past-job e = e ∙ job-passed (job start) (c .before .before .job-status .ensures) (others start) (bytes start) (c .enum-told .given .1)
-
--- ---- whether it has ended
-
-returns-2 : tie.Need-returns-2
-returns-2 c =
-    let told = c .before .before .before in
-    let s = start told in
-    write-refused (x s) (old s) (past-job told (rule-broken 13 (last s) (bytes s) (sym (c .before .is-ended .ensures) ∙ c .if1 .taken)))
-
-past-end : (c : tie.Else1) {next : Answered (List ℕ)} → let s = start (c .before .before .before) in next ≡ roomed (x s) (old s) → next ≡ writeRecord (x s) (length (old s))
-past-end c e =
-    let told = c .before .before .before in
-    let s = start told in
-    past-job told (e ∙ rule-kept 13 (last s) (bytes s) (sym (c .before .is-ended .ensures) ∙ c .if1 .left))
-
--- ---- the room
+passed : (c : tie.After-enum-told) → let a = c .before .before .before .before .args in Passed (ofJob (a .job)) (a .out .now)
+passed c = let a = c .before .before .before .before .args in write-passed (ofJob (a .job)) (a .out .now) (c .before .before .save-status .ensures) (c .enum-told .given .1)
 
 job-length-requires : tie.Need-job-length-requires
-job-length-requires c κs =
-    let told = c .before .before .before in
-    let j = job (start told) in
-    let says = told .before .before .job-status .ensures in
-    (job-inputs j says (told .enum-told .given .1), job-sound j says (told .enum-told .given .1))
+job-length-requires c κs = kept-job (c .before .before .before .before .args .job) (passed c .kept)
 
-returns-3 : tie.Need-returns-3
-returns-3 c =
-    let kept = c .before .before in
-    let s = start (kept .before .before .before) in
-    write-refused (x s) (old s) (past-end kept (no-room (x s) (old s) (omega (arith, c .before .job-length .ensures, c .if2 .taken))))
+add-if1 : tie.Need-add-if1
+add-if1 c = omega (arith, size-most (passed (c .before)) (c .job-length .ensures))
 
-roomy : (c : tie.Else2) → let s = start (c .before .before .before .before .before) in length (recordBytes (x s)) ≤ length (old s)
-roomy c = omega (arith, c .before .job-length .ensures, c .if2 .left)
-
--- ---- the bytes
+returns-2 : tie.Need-returns-2
+returns-2 c = write-short (passed (c .before .before)) (c .before .job-length .ensures) (c .if1 .taken)
 
 put-job-requires : tie.Need-put-job-requires
 put-job-requires c κs =
-    let room = c .before in
-    let kept = room .before .before in
-    let told = kept .before .before .before in
-    let j = job (start told) in
-    let says = told .before .before .job-status .ensures in
-    let done = told .enum-told .given .1 in
-    (job-inputs j says done, job-sound j says done, open-stage (j .state .stage) (sym (kept .before .is-ended .ensures) ∙ kept .if1 .left), omega (arith, roomy room))
+    let put = c .before .before .before in
+    let fits = put .before .before in
+    let told = fits .before .before in
+    let j = told .before .before .before .before .args .job in
+    (kept-job j (passed told .kept), kept-open j [] (passed told .kept), body-room (passed told) (fits .before .job-length .ensures) (fits .if1 .left) (put .put-kind .ensures))
 
-returns-4 : tie.Need-returns-4
-returns-4 c =
+returns-3 : tie.Need-returns-3
+returns-3 c =
     let wrote = c .before .before in
-    let room = wrote .before .before in
-    let kept = room .before .before in
-    let s = start (kept .before .before .before) in
-    write-answered (x s) (old s) (past-end kept (with-room (x s) (old s) (roomy room))) ((wrote .put-job .ensures))
+    let put = wrote .before .before .before .before in
+    let fits = put .before .before in
+    write-body (passed (fits .before .before)) (fits .before .job-length .ensures) (fits .if1 .left) (put .put-kind .ensures) (wrote .put-job .ensures)
 
 pub save-spec : {M : Type 1} → statement M
 save-spec =
@@ -114,11 +48,11 @@ save-spec =
     (λ c κs. search needs)
     (λ c. search needs)
     returns
-    enum-told
-    (λ c κs. search needs)
-    returns-2
+    (λ c. search needs)
     job-length-requires
-    returns-3
+    add-if1
+    returns-2
+    (λ c κs. search needs)
     put-job-requires
     (λ c. search needs)
-    returns-4)
+    returns-3)

@@ -1,17 +1,9 @@
--- `writers::write::write_table` meets its contract: the table's rules by `table_status`, the room, and the bytes. Assumes nothing.
-use mathlib.Core.Path.{_≡_, _∙_}
-use mathlib.Core.List.{List, [], _∷_}
-use Prim.Native.Nat.{ℕ, _≤_}
+-- `writers::write::write_table` meets its contract: the law of a call that writes, at a table. Assumes nothing.
 use native.Mathlib.Omega.{arith}
-use lib.ListN.{length}
 use borrow.Author.Needs.{needs}
-use Rattle.types.specs.declared.table.Table.{Table}
-use Rattle.cell.specs.Refusal.{Answered, answered}
-use Rattle.cell.proofs.TableChecked.{table-refused, table-passed, table-inputs}
-use Rattle.codec.specs.TableField.{headBytes}
-use Rattle.records.specs.Record.{Record, ofTable, bodyBytes, recordBytes}
-use Rattle.writers.specs.Calls.{tooShort, writeRecord}
-use Rattle.writers.proofs.WriteLaws.{write-refused, write-answered, roomed, no-room, with-room}
+use Rattle.cell.proofs.TableChecked.{kept-inputs}
+use Rattle.records.specs.Record.{ofTable, bodyBytes}
+use Rattle.writers.proofs.WriteLaws.{Passed, write-refused, write-passed, size-most, write-short, body-room, write-body}
 use Rattle.writers.proofs.write.write_table.Statement.{statement}
 use Rattle.writers.proofs.write.write_table.Tie as tie
 
@@ -19,51 +11,36 @@ returns : tie.Need-returns
 returns c =
     let at = c .before .before .before in
     let a = at .before .before .args in
-    let old = a .out .now in
-    let x = ofTable (a .table) in
-    write-refused x old (table-refused (a .table) (at .table-status .ensures) (tooShort (length old) (recordBytes x) ∷ []) (answered (recordBytes x)) (c .before .status .given .1))
+    write-refused (ofTable (a .table)) (a .out .now) (at .table-status .ensures) (c .before .status .given .1)
 
-enum-told : tie.Need-enum-told
-enum-told c = search needs
+passed : (c : tie.After-enum-told) → let a = c .before .before .before .before .args in Passed (ofTable (a .table)) (a .out .now)
+passed c = let a = c .before .before .before .before .args in write-passed (ofTable (a .table)) (a .out .now) (c .before .before .table-status .ensures) (c .enum-told .given .1)
 
--- past the table's rules
-module _ (c : tie.After-enum-told) where
-  abbrev table : Table
-  table = c .before .before .before .before .args .table
+table-length-requires : tie.Need-table-length-requires
+table-length-requires c κs = kept-inputs (c .before .before .before .before .args .table) (passed c .kept)
 
-  abbrev old : List ℕ
-  old = c .before .before .before .before .args .out .now
-
-  abbrev x : Record
-  x = ofTable table
-
-  few : table .n ≤ 8
-  few = table-inputs table (c .before .before .table-status .ensures) (c .enum-told .given .1)
-
-  passed : {next : Answered (List ℕ)} → next ≡ roomed x old → next ≡ writeRecord x (length old)
-  passed e = e ∙ table-passed table (c .before .before .table-status .ensures) (tooShort (length old) (recordBytes x) ∷ []) (answered (recordBytes x)) (c .enum-told .given .1)
-
-head-length-requires : tie.Need-head-length-requires
-head-length-requires c κs = few c
+add-if1 : tie.Need-add-if1
+unfolding bodyBytes
+add-if1 c = omega (arith, size-most (passed (c .before)) (c .table-length .ensures))
 
 returns-2 : tie.Need-returns-2
-unfolding recordBytes bodyBytes headBytes
-returns-2 c =
-    let told = c .before .before in
-    write-refused (x told) (old told) (passed told (no-room (x told) (old told) (omega (arith, c .before .head-length .ensures, c .if1 .taken))))
+unfolding bodyBytes
+returns-2 c = write-short (passed (c .before .before)) (c .before .table-length .ensures) (c .if1 .taken)
 
-put-head-requires : tie.Need-put-head-requires
-put-head-requires c κs =
-    let measured = c .before .before in
-    (few (measured .before), omega (arith, measured .head-length .ensures, c .before .if1 .left))
+put-table-requires : tie.Need-put-table-requires
+unfolding bodyBytes
+put-table-requires c κs =
+    let put = c .before .before .before in
+    let fits = put .before .before in
+    (table-length-requires (fits .before .before) (fits .before .table-length .lifetimes), body-room (passed (fits .before .before)) (fits .before .table-length .ensures) (fits .if1 .left) (put .put-kind .ensures))
 
 returns-3 : tie.Need-returns-3
-unfolding recordBytes bodyBytes headBytes
+unfolding bodyBytes
 returns-3 c =
-    let at = c .before .before in
-    let room = at .before in
-    let told = room .before .before .before in
-    write-answered (x told) (old told) (passed told (with-room (x told) (old told) (omega (arith, put-head-requires room (at .put-head .lifetimes) .1)))) ((at .put-head .ensures))
+    let wrote = c .before .before in
+    let put = wrote .before .before .before .before in
+    let fits = put .before .before in
+    write-body (passed (fits .before .before)) (fits .before .table-length .ensures) (fits .if1 .left) (put .put-kind .ensures) (wrote .put-table .ensures)
 
 pub write-table-spec : {M : Type 1} → statement M
 write-table-spec =
@@ -72,9 +49,11 @@ write-table-spec =
     (λ c κs. search needs)
     (λ c. search needs)
     returns
-    enum-told
-    head-length-requires
+    (λ c. search needs)
+    table-length-requires
+    add-if1
     returns-2
-    put-head-requires
+    (λ c κs. search needs)
+    put-table-requires
     (λ c. search needs)
     returns-3)

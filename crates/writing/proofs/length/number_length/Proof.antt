@@ -1,14 +1,14 @@
 -- `length::number_length` meets its contract: below 2^7 and below 2^14 the bytes are listed, and from there on there are three.
 -- Assumes nothing.
 use mathlib.Core.Path.{_≡_, sym, ap}
-use mathlib.Core.Bool.{Bool, true, false}
+use mathlib.Core.Bool.{Bool, true, false, cond}
 use mathlib.Core.List.{[], _∷_}
 use Prim.Native.Nat.{ℕ, _+_, _/_, _%_, _≤_}
 use native.Mathlib.Omega.{arith}
 use lib.Dec.{ltb}
 use lib.ListN.{length}
 use borrow.Author.Tests.{le-ltb}
-use Rattle.codec.specs.Number.{pickBytes, groupBytes, numberBytes}
+use Rattle.codec.specs.Number.{groupBytes, numberBytes}
 use Rattle.codec.proofs.NumberLaws.{number-one, number-two}
 use Rattle.writing.proofs.length.number_length.Statement.{statement}
 use Rattle.writing.proofs.length.number_length.Tie as tie
@@ -18,7 +18,7 @@ three : (x : ℕ) → 16384 ≤ x → length (numberBytes x) ≡ 3
 unfolding numberBytes groupBytes
 three x h = rw (le-ltb x 128 (omega arith), le-ltb (x / 128) 128 (omega arith)) (omega (arith, last (ltb (x / 128 / 128) 128)))
   where
-    last : (t : Bool) → length (pickBytes t (x / 128 / 128 ∷ []) ((128 + x / 128 / 128 % 128) ∷ [])) ≡ 1
+    last : (t : Bool) → length (cond t (x / 128 / 128 ∷ []) ((128 + x / 128 / 128 % 128) ∷ [])) ≡ 1
     last true = omega arith
     last false = omega arith
 

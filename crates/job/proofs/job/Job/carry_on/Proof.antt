@@ -1,6 +1,6 @@
 -- `job::job::Job::carry_on` meets its contract: the job's rules first, by `job_status`, then the budget's; an ended job answers as it is, and
 -- an open one that stays within the cap runs. Assumes nothing.
-use mathlib.Core.Path.{_≡_, sym, _∙_, ap, subst}
+use mathlib.Core.Path.{_≡_, sym, _∙_, ap}
 use mathlib.Core.Logic.{⊎-elim}
 use mathlib.Core.Bool.{true, _||_}
 use mathlib.Core.List.{List, [], _∷_}

@@ -1,0 +1,2 @@
+-- the fields of a job before its row list
+pub mod Body
