@@ -15,7 +15,7 @@ use Rattle.types.specs.declared.witness.Witness.{Witness}
 use Rattle.table.specs.Table.{rows}
 use Rattle.table.specs.Gate.{weightLimit, inRange}
 use Rattle.table.specs.Witness.{unfit, countLimit}
-use Rattle.machine.proofs.RangeLaws.{in-range-correct, in-range-wider}
+use Rattle.function.proofs.RangeLaws.{in-range-correct, in-range-wider}
 use Rattle.job.specs.declared.job.Job.{Job}
 use Rattle.types.specs.declared.stage.Stage.{Stage}
 use Rattle.types.specs.declared.stage.Stage.the-variants.{Open, Found, Looped, Binate}

@@ -17,7 +17,7 @@ use Rattle.table.specs.Gate.{weightLimit, within, inRange}
 use Rattle.cell.specs.Refusal.{answered}
 use Rattle.types.specs.declared.vector.Vector.{Vector}
 use Rattle.function.specs.Vector.{zeroVector}
-use Rattle.machine.proofs.RangeLaws.{within-correct, in-range-correct, in-range-at, in-range-past}
+use Rattle.function.proofs.RangeLaws.{within-correct, in-range-correct, in-range-at, in-range-past}
 use Rattle.codec.specs.Field.{Field, field}
 use Rattle.codec.specs.Number.{numberBytes, numberAt, signedCode, signedOf}
 use Rattle.codec.specs.VectorField.{weightBytes, vectorBytes, signedAt, weightsAt, vectorAt}
