@@ -43,8 +43,11 @@ gateVector g = record { a = g .weights; b = g .threshold }
 -- ---- written
 
 -- after the table, kind 4 has K, v, s, and a row list
+abbrev pub numbersBytes : Job → List ℕ
+numbersBytes j = (numberBytes (j .state .k) ++ vectorBytes (j .table .n) (j .state .v)) ++ vectorBytes (j .table .n) (j .state .s)
+
 abbrev pub jobBytes : Job → List ℕ
-jobBytes j = numberBytes (j .state .k) ++ (vectorBytes (j .table .n) (j .state .v) ++ (vectorBytes (j .table .n) (j .state .s) ++ rowListBytes (j .state .counts)))
+jobBytes j = numbersBytes j ++ rowListBytes (j .state .counts)
 
 -- what follows the kind byte
 unfoldable pub bodyBytes : Record → List ℕ

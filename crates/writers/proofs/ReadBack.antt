@@ -39,6 +39,7 @@ use Rattle.codec.proofs.TableFieldLaws.{table-read}
 use Rattle.records.specs.Record.{Record, ofTable, ofGate, ofWitness, ofJob, family, gateVector, vectorGate, jobBytes, recordBytes, openJob, unsoundJob, countsAt, jobAt, restAt, bodyAt, bytesLeft, recordAt, singleAt, readRecord}
 use Rattle.writers.specs.Calls.{tooShort, recordRules, writeRecord}
 use Rattle.bodies.proofs.RecordParts.{Held, tableIn, restBytes, record-parts, body-is, same-inputs, gate-in-limits, witness-fits, savable}
+use Rattle.bodies.proofs.BodyLaws.{job-bytes, job-count}
 use Rattle.writers.proofs.KeptLaws.{kept-open}
 
 -- ---- read after write
@@ -70,19 +71,18 @@ module _ (j : Job) (few : j .table .n ≤ 8) (sound : Sound j) (opened : j .stat
       let current = vectorBytes n (j .state .v) in
       let copied = vectorBytes n (j .state .s) in
       let counts = rowListBytes (j .state .counts) in
-      let after-number = stands-back s at number (current ++ (copied ++ counts)) stands in
+      let fields = subst (Stands s at) (job-bytes j) stands in
+      let after-number = stands-back s at number (current ++ (copied ++ counts)) fields in
       let after-current = stands-back s (at + length number) current (copied ++ counts) after-number in
       let after-copied = stands-back s (at + length number + length current) copied counts after-current in
-      let first = number-read s at (j .state .k) (keeps .few) (stands-front s at number (current ++ (copied ++ counts)) stands) in
+      let first = number-read s at (j .state .k) (keeps .few) (stands-front s at number (current ++ (copied ++ counts)) fields) in
       let second = vector-read false n (j .state .v) s (at + length number) few (sound .shaped .weights) (keeps .current) (stands-front s (at + length number) current (copied ++ counts) after-number) in
       let third = vector-read false n (j .state .s) s (at + length number + length current) few (sound .shaped .copied) (keeps .copied) (stands-front s (at + length number + length current) copied counts after-current) in
-      let total : length (jobBytes j) ≡ length number + (length current + (length copied + length counts)) =
-      length-append number (current ++ (copied ++ counts)) ∙ ap (λ (m : ℕ). length number + m) (length-append current (copied ++ counts) ∙ ap (λ (m : ℕ). length current + m) (length-append copied counts)) in
       ap (λ (r : Reading ℕ). onward r (λ k p. onward (vectorAt false n s p) (λ v q. onward (vectorAt false n s q) (λ w e. countsAt (j .table) k v w s e)))) first
       ∙ ap (λ (r : Reading Vector). onward r (λ v q. onward (vectorAt false n s q) (λ w e. countsAt (j .table) (j .state .k) v w s e))) second
       ∙ ap (λ (r : Reading Vector). onward r (λ w e. countsAt (j .table) (j .state .k) (j .state .v) w s e)) third
       ∙ counts-read (at + length number + length current + length copied) after-copied
-      ∙ ap (λ (next : ℕ). answered (field (ofJob j) next)) (omega (arith, total))
+      ∙ ap (λ (next : ℕ). answered (field (ofJob j) next)) (omega (arith, job-count j))
 
 -- what follows the table, read where it stands
 rest-read : (x : Record) (others : List Rule) → Held x → NoneBroken (recordRules x others) → (s : List ℕ) (at : ℕ) → Stands s at (restBytes x)

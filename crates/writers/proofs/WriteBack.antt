@@ -94,9 +94,9 @@ module _ (t : Table) (s : List ℕ) (bytes : AllBytes s) (taken : NoneBroken (ta
       let current = vector-written false (t .n) s (k .next) v few bytes ev in
       let copied = vector-written false (t .n) s (v .next) w few bytes ew in
       let counts = rows-written false (rows t) s (w .next) list (rows-le few) bytes el kept in
-      let last = both-stand s (v .next) (vectorBytes (t .n) (w .value)) (rowListBytes (list .value .counts)) (copied .stands) (copied .next) (counts .stands) (counts .next) in
-      let later = both-stand s (k .next) (vectorBytes (t .n) (v .value)) (vectorBytes (t .n) (w .value) ++ rowListBytes (list .value .counts)) (current .stands) (current .next) (last .0) (last .1) in
-      let whole = both-stand s at (numberBytes (k .value)) (vectorBytes (t .n) (v .value) ++ (vectorBytes (t .n) (w .value) ++ rowListBytes (list .value .counts))) (number .stands) (number .next) (later .0) (later .1) in
+      let two = both-stand s at (numberBytes (k .value)) (vectorBytes (t .n) (v .value)) (number .stands) (number .next) (current .stands) (current .next) in
+      let three = both-stand s at (numberBytes (k .value) ++ vectorBytes (t .n) (v .value)) (vectorBytes (t .n) (w .value)) (two .0) (two .1) (copied .stands) (copied .next) in
+      let whole = both-stand s at ((numberBytes (k .value) ++ vectorBytes (t .n) (v .value)) ++ vectorBytes (t .n) (w .value)) (rowListBytes (list .value .counts)) (three .0) (three .1) (counts .stands) (counts .next) in
       record {
         same-family = refl;
         same-table = refl;
