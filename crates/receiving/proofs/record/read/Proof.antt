@@ -38,7 +38,7 @@ use Rattle.reading.proofs.kind.Takes as P
 use Rattle.reading.proofs.kind.Takes.Laws as P′
 use Rattle.records.proofs.ReadLaws.{record-read}
 use Rattle.readers.specs.declared.reader.Reader.{Reader}
-use Rattle.readers.specs.Reader.{Stands}
+use Rattle.readers.specs.Reader.{ReaderAt}
 use Rattle.readers.proofs.reader.Held.{Src, sliceOf, slice-typed, reader-copy}
 use Rattle.readers.proofs.reader.Passed as Passed
 use Rattle.readers.proofs.reader.Plain.{Plain}
@@ -94,8 +94,8 @@ module _ (X : Plain) (K B : Stop) (S : Plain) (taken : ℕ → X .row .Denot) (k
   module _ (f : Fn) (i : ℕ) (same : f ≡ function i) {M : Type 1} (𝓤 : URA M) (H : Heap 𝓤) (A : Atoms 𝓤) (W : Given 𝓤 H A) (ok : IsTag i) (made : Is (X .row) (taken i) (tagged i ∷ [])) (makes : Makes 𝓤 H A (X .row) (Is (X .row)))
       (c : Clauses 𝓤 ended) (shown : (κs : Lfts 1) (a : Args signature κs) (g : c κs a .ghost) (r : S .row .Denot) (e : AtExit ended κs) → r ≡ travel i (now (a .0)) → Seq (Go {0}) W [] (prop (c κs a .ensures g r e))) where
     -- a reader that travelled through a record's fields to its end has read it
-    travelled : (s : RefT (List ℕ)) (r r₁ r₂ : Reader) (k : K .row .Denot) (b : B .row .Denot) (t : S .row .Denot) → Stands s 0 r → k ≡ kindOf (taken i) (now (r .src)) (r .at)
-        → Stands (r .src) (K .next k) r₁ → b ≡ bodyOf k (now (r₁ .src)) (r₁ .at) → Stands (r₁ .src) (B .next b) r₂ → t ≡ endOf b (now (r₂ .src)) (r₂ .at) → t ≡ travel i (now s)
+    travelled : (s : RefT (List ℕ)) (r r₁ r₂ : Reader) (k : K .row .Denot) (b : B .row .Denot) (t : S .row .Denot) → ReaderAt s 0 r → k ≡ kindOf (taken i) (now (r .src)) (r .at)
+        → ReaderAt (r .src) (K .next k) r₁ → b ≡ bodyOf k (now (r₁ .src)) (r₁ .at) → ReaderAt (r₁ .src) (B .next b) r₂ → t ≡ endOf b (now (r₂ .src)) (r₂ .at) → t ≡ travel i (now s)
     travelled s r r₁ r₂ k b t e ek e₁ eb e₂ et =
         let on = moved-on s 0 (K .next k) r r₁ e e₁ in
         et ∙ there (endOf b) s (B .next b) r₂ (moved-on s (K .next k) (B .next b) r₁ r₂ on e₂)

@@ -39,7 +39,7 @@ use Rattle.reading.proofs.kind.Takes.Laws as P′
 use Rattle.readers.proofs.reader.table.Symbol as table-def
 use Rattle.readers.proofs.reader.table.Met as table-thm
 use Rattle.readers.specs.declared.reader.Reader.{Reader}
-use Rattle.readers.specs.Reader.{Stands}
+use Rattle.readers.specs.Reader.{ReaderAt}
 use Rattle.readers.proofs.reader.Held.{Src, sliceOf, slice-typed, reader-copy}
 use Rattle.readers.proofs.reader.Passed as Passed
 use Rattle.readers.proofs.reader.Plain.{Plain}
@@ -89,8 +89,8 @@ module _ (X : Plain) (K : Stop) (S : Plain) (taken : ℕ → X .row .Denot) (kin
   module _ (f : Fn) (i : ℕ) (same : f ≡ function i) {M : Type 1} (𝓤 : URA M) (H : Heap 𝓤) (A : Atoms 𝓤) (W : Given 𝓤 H A) (ok : IsTag i) (made : Is (X .row) (taken i) (tagged i ∷ [])) (makes : Makes 𝓤 H A (X .row) (Is (X .row)))
       (c : Clauses 𝓤 ended) (shown : (κs : Lfts 1) (a : Args signature κs) (g : c κs a .ghost) (r : S .row .Denot) (e : AtExit ended κs) → r ≡ travel i (now (a .0)) (a .1 .0) → Seq (Go {0}) W [] (prop (c κs a .ensures g r e))) where
     -- a reader that travelled through the kind byte has read the record of a table alone
-    travelled : (s : RefT (List ℕ)) (n : ℕ) (r r₁ r₂ : Reader) (k : K .row .Denot) (t : S .row .Denot) → Stands s 0 r → Stands (r .src) n r₁ → k ≡ kindOf (taken i) (now (r₁ .src)) (r₁ .at)
-        → Stands (r₁ .src) (K .next k) r₂ → t ≡ tableOf k (now (r₂ .src)) (r₂ .at) → t ≡ travel i (now s) n
+    travelled : (s : RefT (List ℕ)) (n : ℕ) (r r₁ r₂ : Reader) (k : K .row .Denot) (t : S .row .Denot) → ReaderAt s 0 r → ReaderAt (r .src) n r₁ → k ≡ kindOf (taken i) (now (r₁ .src)) (r₁ .at)
+        → ReaderAt (r₁ .src) (K .next k) r₂ → t ≡ tableOf k (now (r₂ .src)) (r₂ .at) → t ≡ travel i (now s) n
     travelled s n r r₁ r₂ k t e e₁ ek e₂ et =
         let on = moved-on s 0 n r r₁ e e₁ in
         et ∙ there (tableOf k) s (K .next k) r₂ (moved-on s n (K .next k) r₁ r₂ on e₂) ∙ ap (ahead (now s)) (ek ∙ there (kindOf (taken i)) s n r₁ on)
