@@ -7,13 +7,13 @@ use Prim.Native.Nat.{ℕ}
 use lib.Dec.{eqb}
 use lib.ListN.{length}
 use lib.IntN.{ℤ, pos, negℤ}
-use Rattle.cell.specs.Refusal.{Answered, answered, refused, andThen, checked}
+use Rattle.cell.specs.Refusal.{Answered, answered, refused, andThen}
 use Rattle.cell.specs.declared.refusal.Answer.{Answer}
 use Rattle.cell.specs.declared.refusal.Answer.the-variants as Answer′
 use Rattle.types.specs.declared.kind.Kind.{Kind}
 use Rattle.codec.specs.Kind.{Family, kindOf}
 use Rattle.reading.specs.Fields.{familyOf}
-use Rattle.writers.specs.Calls.{tooShort, lent}
+use Rattle.writers.specs.Calls.{lent}
 
 -- the number that is returned: the answer's, or the negative of the refusal's
 abbrev pub asResult : Answered ℕ → ℤ
@@ -32,10 +32,6 @@ said a = andThen a (λ b. answered (yesOrNo b))
 -- bytes to write as their length
 abbrev pub measured : Answered (List ℕ) → Answered ℕ
 measured a = andThen a (λ bytes. answered (length bytes))
-
--- bytes to write, in a buffer of so many: 12
-abbrev pub fitted : ℕ → List ℕ → Answered (List ℕ)
-fitted room bytes = checked (tooShort room bytes ∷ []) (answered bytes)
 
 -- a call that writes has come to this: it returns the length of its bytes, which stand in the lent buffer, the rest as it was; or it returns
 -- its refusal, and the buffer is as it was

@@ -12,7 +12,8 @@ use Rattle.codec.specs.Kind.{tables, jobs}
 use Rattle.records.specs.declared.read.Read.{Read}
 use Rattle.records.specs.Record.{readRecord}
 use Rattle.records.specs.Calls.{asRead}
-use Rattle.results.specs.Result.{fitted, row, saidOf}
+use Rattle.writers.specs.Calls.{fitted}
+use Rattle.results.specs.Result.{row, saidOf}
 use Rattle.certificates.specs.Certificate.{checkIn, kindIn, valueIn}
 use Rattle.inputs.specs.Inputs.{inputBytes, chowBytes}
 use Rattle.outcome.specs.Outcome.{Handed, decidedBack, carriedBack}
