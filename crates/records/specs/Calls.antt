@@ -16,7 +16,7 @@ use Rattle.types.specs.declared.kind.Kind.{Kind}
 use Rattle.types.specs.declared.kind.Kind.the-variants as Kind′
 use Rattle.reading.specs.Fields.{familyOf, noTable}
 use Rattle.records.specs.declared.read.Read.{Read}
-use Rattle.records.specs.declared.read.Body.{Body}
+use Rattle.records.specs.declared.read.RecordField.{RecordField}
 use Rattle.records.specs.Record.{Record, ofTable, ofGate, ofWitness, ofJob, restAt, bodyAt, bytesLeft}
 
 -- what stands beside a record that is no job: the job of no inputs with all numbers 0
@@ -32,9 +32,9 @@ asRead (answered (ofJob j)) = record { kind = Kind′.Job; table = j .table; gat
 asRead (refused n) = record { kind = Kind′.Refused n; table = noTable; gate = noGate; witness = noWitness; job = noJob }
 
 -- a record that is not yet ended: the position after it, 0 beside a refusal
-abbrev pub asBody : Reading Record → Body
-asBody (answered f) = record { read = asRead (answered (f .value)); next = f .next }
-asBody (refused n) = record { read = asRead (refused n); next = 0 }
+abbrev pub recordField : Reading Record → RecordField
+recordField (answered f) = record { read = asRead (answered (f .value)); next = f .next }
+recordField (refused n) = record { read = asRead (refused n); next = 0 }
 
 -- what follows the table of a kind that was read; a refused one is passed on
 abbrev pub restBy : Kind → Table → List ℕ → ℕ → Reading Record

@@ -1,5 +1,5 @@
 -- A record: its bytes, and what bytes mean (document 01, "Records" and "Who causes which number"). Definitions only. Assumes nothing.
-use mathlib.Core.Bool.{Bool, true, false, not, _&&_}
+use mathlib.Core.Bool.{true, false, not, _&&_}
 use mathlib.Core.List.{List, [], _∷_, _++_}
 use Prim.Native.Nat.{ℕ}
 use lib.Dec.{ltb}

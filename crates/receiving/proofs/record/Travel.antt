@@ -94,8 +94,8 @@ module _ {M : Type 1} (𝓤 : URA M) (H : Heap 𝓤) (A : Atoms 𝓤) where
   abbrev pub Moved : Contract 𝓤
   Moved = Stating 𝓤 moved.ended Moving H A
 
-  abbrev pub Reading : (P S : Plain) → (P .row .Denot → List ℕ → ℕ → S .row .Denot) → Contract 𝓤
-  Reading P S meant = Stating 𝓤 (ended P S) (Gives P S meant) H A
+  abbrev pub Reads : (P S : Plain) → (P .row .Denot → List ℕ → ℕ → S .row .Denot) → Contract 𝓤
+  Reads P S meant = Stating 𝓤 (ended P S) (Gives P S meant) H A
 
 -- what is read where a reader stands; and where it stands once it was moved
 pub there : {X : Type 0} (m : List ℕ → ℕ → X) (s : RefT (List ℕ)) (n : ℕ) (r : Reader) → Stands s n r → m (now (r .src)) (r .at) ≡ m (now s) n
@@ -155,8 +155,8 @@ module _ {M : Type 1} (𝓤 : URA M) (H : Heap 𝓤) (A : Atoms 𝓤) (κ : Lft)
     moves known r u n fits os k =
         owned t usize (Is usize) (uint-makes 𝓤 H A W w64) n _ (refl, fits) $ move t (1 ∷ 2 ∷ 0 ∷ []) $ hands t r usize n $ calls 𝓤 moved.ended Moving H A (to-moved r u n) t fm known os k
 
-    pub reads : (P S : Plain) (meant : P .row .Denot → List ℕ → ℕ → S .row .Denot) → Triple 𝓤 (C f) (Reading 𝓤 H A P S meant) → (r : Reader) (u : Val) (x : P .row .Denot) (v : Val)
-        → Opds K W (raw (Reading 𝓤 H A P S meant .pre (to P S r u x v, tt)) ∷ Γ) E xs (u ∷ v ∷ [])
+    pub reads : (P S : Plain) (meant : P .row .Denot → List ℕ → ℕ → S .row .Denot) → Triple 𝓤 (C f) (Reads 𝓤 H A P S meant) → (r : Reader) (u : Val) (x : P .row .Denot) (v : Val)
+        → Opds K W (raw (Reads 𝓤 H A P S meant .pre (to P S r u x v, tt)) ∷ Γ) E xs (u ∷ v ∷ [])
         → ((w : Val) (z : S .row .Denot) → z ≡ meant x (now (r .src)) (r .at) → Is (S .row) z (w ∷ []) → Seq K W (‵ (S .row .own z (w ∷ [])) ∷ token ∷ Γ) (lands C Λ E d w rest p))
         → Seq K W (‵ (OwnR r u) ∷ token ∷ ‵ (P .row .own x (v ∷ [])) ∷ Γ) (runs C Λ E (seq (call f xs d) rest) p)
     reads P S meant known r u x v os k = hands t r (P .row) x $ calls 𝓤 (ended P S) (Gives P S meant) H A (to P S r u x v) t fm known os k

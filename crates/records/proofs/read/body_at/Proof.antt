@@ -15,7 +15,7 @@ use Rattle.codec.proofs.TableFieldLaws.{table-taken}
 use Rattle.reading.specs.Fields.{familyOf}
 use Rattle.reading.proofs.FieldFacts.{Whole, kind-family, table-refused, table-done}
 use Rattle.records.specs.Record.{Record, bodyAt}
-use Rattle.records.specs.Calls.{asBody, restBy, bodyBy}
+use Rattle.records.specs.Calls.{recordField, restBy, bodyBy}
 use Rattle.records.proofs.read.body_at.Statement.{statement}
 use Rattle.records.proofs.read.body_at.Tie as tie
 
@@ -31,7 +31,7 @@ returns : tie.Need-returns
 returns c =
     let known = c .before .before in
     let a = c .before .before .before .before .before .args in
-    c .no-body .ensures ∙ ap asBody (passed-on (a .field .kind) (a .bytes .now) (a .at) (ap familyOf (known .kind .given .1)))
+    c .no-body .ensures ∙ ap recordField (passed-on (a .field .kind) (a .bytes .now) (a .at) (ap familyOf (known .kind .given .1)))
 
 module _ (c : tie.After-read-table) where
   abbrev start : tie.Start
@@ -49,8 +49,8 @@ module _ (c : tie.After-read-table) where
   abbrev read : Field Table
   read = let r = c .read-table .result in field (r .table) (r .next)
 
-  past-kind : {next : Reading Record} → next ≡ onward table rest → asBody next ≡ asBody (bodyBy kind (start .args .bytes .now) (start .args .at))
-  past-kind e = ap asBody (e ∙ body-is kind (c .before .match .keys2) (start .args .bytes .now) (start .args .at))
+  past-kind : {next : Reading Record} → next ≡ onward table rest → recordField next ≡ recordField (bodyBy kind (start .args .bytes .now) (start .args .at))
+  past-kind e = ap recordField (e ∙ body-is kind (c .before .match .keys2) (start .args .bytes .now) (start .args .at))
 
 returns-2 : tie.Need-returns-2
 returns-2 c =

@@ -2,15 +2,15 @@
 use mathlib.Core.Path.{_≡_, sym, _∙_, ap}
 use borrow.Author.Needs.{needs}
 use Rattle.types.specs.declared.kind.Kind.{Kind}
-use Rattle.records.specs.declared.read.Body.{Body}
-use Rattle.records.specs.Calls.{asBody, restBy}
+use Rattle.records.specs.declared.read.RecordField.{RecordField}
+use Rattle.records.specs.Calls.{recordField, restBy}
 use Rattle.records.proofs.read.read_rest.Statement.{statement}
 use Rattle.records.proofs.read.read_rest.Tie as tie
 
 -- a kind that is told decides
-by-kind : {k known : Kind} (a : tie.Start) {r : Body} → r ≡ asBody (restBy known (a .args .table) (a .args .bytes .now) (a .args .at)) → k ≡ known
-    → r ≡ asBody (restBy k (a .args .table) (a .args .bytes .now) (a .args .at))
-by-kind a e same = e ∙ ap (λ (k : Kind). asBody (restBy k (a .args .table) (a .args .bytes .now) (a .args .at))) (sym same)
+by-kind : {k known : Kind} (a : tie.Start) {r : RecordField} → r ≡ recordField (restBy known (a .args .table) (a .args .bytes .now) (a .args .at)) → k ≡ known
+    → r ≡ recordField (restBy k (a .args .table) (a .args .bytes .now) (a .args .at))
+by-kind a e same = e ∙ ap (λ (k : Kind). recordField (restBy k (a .args .table) (a .args .bytes .now) (a .args .at))) (sym same)
 
 returns : tie.Need-returns
 returns c =
