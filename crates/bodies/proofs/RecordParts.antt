@@ -17,8 +17,7 @@ use Rattle.table.specs.Gate.{weightLimit, inRange}
 use Rattle.table.specs.Witness.{unfit, countLimit}
 use Rattle.machine.proofs.RangeLaws.{in-range-correct, in-range-wider}
 use Rattle.job.specs.declared.job.Job.{Job}
-use Rattle.types.specs.declared.stage.Stage.{Stage}
-use Rattle.types.specs.declared.stage.Stage.the-variants.{Open, Found, Looped, Binate}
+use Rattle.types.specs.declared.stage.Stage.the-variants.{Open, Binate}
 use Rattle.job.specs.Sound.{cap, Sound}
 use Rattle.job.proofs.MachineLaws.{binate-ended}
 use Rattle.job.proofs.SoundLaws.{sound-current, sound-copied, sound-count}
