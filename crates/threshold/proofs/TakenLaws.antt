@@ -25,7 +25,7 @@ use Rattle.writers.specs.Calls.{tooShort, recordRules}
 use Rattle.writers.proofs.WriteBack.{write-back}
 use Rattle.types.proofs.kind.Kind.{the-type}
 use Rattle.results.specs.Result.{numberFor, row, rowOf, saidOf}
-use Rattle.threshold.specs.Interface.{tableIn, jobIn, tableRead, jobRead}
+use Rattle.threshold.specs.Interface.{tableTaken, jobTaken, tableRead, jobRead}
 
 -- ---- the record of an answer
 
@@ -37,7 +37,7 @@ same-answer : {A : Type 0} {a b : A} → answered a ≡ answered b → a ≡ b
 same-answer e = cc
 
 -- a call on a table is given that of a kind 1 record
-pub is-table : (a : Answered Record) (t : Table) → tableIn (asRead a) ≡ answered t → a ≡ answered (ofTable t)
+pub is-table : (a : Answered Record) (t : Table) → tableTaken (asRead a) ≡ answered t → a ≡ answered (ofTable t)
 unfolding rowOf
 is-table (answered (ofTable u)) t e = ap (λ (t : Table). answered (ofTable t)) (same-answer e)
 is-table (answered (ofGate u g)) t e = no-answer e
@@ -46,7 +46,7 @@ is-table (answered (ofJob j)) t e = no-answer e
 is-table (refused n) t e = no-answer e
 
 -- and a call on a job that of a kind 4 record
-pub is-job : (a : Answered Record) (j : Job) → jobIn (asRead a) ≡ answered j → a ≡ answered (ofJob j)
+pub is-job : (a : Answered Record) (j : Job) → jobTaken (asRead a) ≡ answered j → a ≡ answered (ofJob j)
 unfolding rowOf
 is-job (answered (ofTable t)) j e = no-answer e
 is-job (answered (ofGate t g)) j e = no-answer e
@@ -62,7 +62,7 @@ module _ (s : List ℕ) {r : Read} (says : r ≡ asRead (readRecord s)) where
   pub no-table : OneOf (1 ∷ 2 ∷ 3 ∷ 4 ∷ []) (tagOf the-type (r .kind)) → {A : Type 0} (later : Table → Answered A)
       → refused (numberFor (r .kind)) ≡ andThen (tableRead s) later
   unfolding rowOf
-  no-table other later = ap (λ (t : Answered Table). andThen t later) (by (r .kind) other ∙ ap tableIn says)
+  no-table other later = ap (λ (t : Answered Table). andThen t later) (by (r .kind) other ∙ ap tableTaken says)
     where
       by : (k : Kind) → OneOf (1 ∷ 2 ∷ 3 ∷ 4 ∷ []) (tagOf the-type k) → refused (numberFor k) ≡ saidOf k (row tables (answered (r .table)) ∷ [])
       by Kind′.Table o = absurd (⊎-elim (λ e. omega arith) (⊎-elim (λ e. omega arith) (⊎-elim (λ e. omega arith) (λ e. omega arith))) o)
@@ -74,7 +74,7 @@ module _ (s : List ℕ) {r : Read} (says : r ≡ asRead (readRecord s)) where
   -- else it has the table
   has-table : r .kind ≡ Kind′.Table → answered (r .table) ≡ tableRead s
   unfolding rowOf
-  has-table e = ap (λ (k : Kind). saidOf k (row tables (answered (r .table)) ∷ [])) (sym e) ∙ ap tableIn says
+  has-table e = ap (λ (k : Kind). saidOf k (row tables (answered (r .table)) ∷ [])) (sym e) ∙ ap tableTaken says
 
   pub with-table : r .kind ≡ Kind′.Table → {A : Type 0} (later : Table → Answered A) → later (r .table) ≡ andThen (tableRead s) later
   with-table e later = ap (λ (t : Answered Table). andThen t later) (has-table e)
@@ -92,7 +92,7 @@ module _ (s : List ℕ) {r : Read} (says : r ≡ asRead (readRecord s)) where
   pub no-job : OneOf (0 ∷ 1 ∷ 2 ∷ 4 ∷ []) (tagOf the-type (r .kind)) → {A : Type 0} (later : Job → Answered A)
       → refused (numberFor (r .kind)) ≡ andThen (jobRead s) later
   unfolding rowOf
-  no-job other later = ap (λ (j : Answered Job). andThen j later) (by (r .kind) other ∙ ap jobIn says)
+  no-job other later = ap (λ (j : Answered Job). andThen j later) (by (r .kind) other ∙ ap jobTaken says)
     where
       by : (k : Kind) → OneOf (0 ∷ 1 ∷ 2 ∷ 4 ∷ []) (tagOf the-type k) → refused (numberFor k) ≡ saidOf k (row jobs (answered (r .job)) ∷ [])
       by Kind′.Table o = refl
@@ -107,4 +107,4 @@ module _ (s : List ℕ) {r : Read} (says : r ≡ asRead (readRecord s)) where
   with-job e later = ap (λ (j : Answered Job). andThen j later) has-job
     where
       has-job : answered (r .job) ≡ jobRead s
-      has-job = ap (λ (k : Kind). saidOf k (row jobs (answered (r .job)) ∷ [])) (sym e) ∙ ap jobIn says
+      has-job = ap (λ (k : Kind). saidOf k (row jobs (answered (r .job)) ∷ [])) (sym e) ∙ ap jobTaken says
