@@ -86,16 +86,16 @@ abbrev pub jobAt : Table → List ℕ → ℕ → Reading Record
 jobAt t s at =
     onward (numberAt s at) (λ k p. onward (vectorAt false (t .n) s p) (λ v q. onward (vectorAt false (t .n) s q) (λ w r. countsAt t k v w s r)))
 
--- what follows the table, by the family
-abbrev pub restAt : Family → Table → List ℕ → ℕ → Reading Record
-restAt tables t s at = answered (field (ofTable t) at)
-restAt gates t s at = gateAt t s at
-restAt witnesses t s at = witnessAt t s at
-restAt jobs t s at = jobAt t s at
+-- a table, and what follows it
+abbrev pub afterTable : (Table → List ℕ → ℕ → Reading Record) → List ℕ → ℕ → Reading Record
+afterTable rest s at = onward (tableAt s at) (λ t p. rest t s p)
 
--- what follows the kind byte: the table, and the rest by the family
+-- what follows the kind byte, by the family
 unfoldable pub bodyAt : Family → List ℕ → ℕ → Reading Record
-bodyAt f s at = onward (tableAt s at) (λ t p. restAt f t s p)
+bodyAt tables s at = afterTable (λ t s p. answered (field (ofTable t) p)) s at
+bodyAt gates s at = afterTable gateAt s at
+bodyAt witnesses s at = afterTable witnessAt s at
+bodyAt jobs s at = afterTable jobAt s at
 
 -- a record from a position on, of the families that a caller takes
 unfoldable pub recordAt : List Family → List ℕ → ℕ → Reading Record

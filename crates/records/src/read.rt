@@ -23,7 +23,7 @@ ghost use Rattle.table.specs.Table.{rowsOf};
 ghost use Rattle.cell.specs.Refusal.{refused};
 ghost use Rattle.job.specs.Calls.{noGate, noWitness};
 ghost use Rattle.records.specs.Record.{gateAt, witnessAt, openJob, countsAt, jobAt};
-ghost use Rattle.records.specs.Calls.{noJob, asRead, asBody, restBy, bodyBy, ended};
+ghost use Rattle.records.specs.Calls.{noJob, asRead, asBody, bodyBy, ended};
 
 // A record's kind and parts. What the kind does not have is all 0.
 pub struct Read {
@@ -206,23 +206,6 @@ fn read_job(bytes: &[u8], at: usize, table: Table) -> Body
     read_counts(bytes, s.next, table, k.value, v.v, s.v)
 }
 
-// Reads what follows a table, by the kind. Refusals: the kind's; 1, 4, and 7, 8 or 9 by the kind.
-fn read_rest(bytes: &[u8], at: usize, kind: Kind, table: Table) -> Body
-    requires { ⌜ table .n ≤ 8 ⌝ }
-    ensures { λ r. ⌜ r ≡ asBody (restBy kind table (now (bytes .entry)) at) ⌝ }
-{
-    match kind {
-        Kind::Table => Body {
-            read: bare(Kind::Table, table),
-            next: at,
-        },
-        Kind::Gate => read_gate(bytes, at, table),
-        Kind::Witness => read_witness(bytes, at, table),
-        Kind::Job => read_job(bytes, at, table),
-        Kind::Refused(number) => no_body(number),
-    }
-}
-
 // Reads what follows a kind that was read, at a position. Refusals: the kind's; 1, 4, 2, 3 of the table; 7, 8 or 9 by the kind.
 pub fn body_at(bytes: &[u8], at: usize, field: KindField) -> Body
     ensures { λ r. ⌜ r ≡ asBody (bodyBy (field .kind) (now (bytes .entry)) at) ⌝ }
@@ -231,13 +214,23 @@ pub fn body_at(bytes: &[u8], at: usize, field: KindField) -> Body
     if let Kind::Refused(number) = kind {
         return no_body(number);
     }
+    // every kind begins with a table: it is read once, before the kind is looked at again
     let read = read_table(bytes, at);
     let status = read.status;
     if let Status::Refused(number) = status {
         return no_body(number);
     }
     let table = read.table;
-    read_rest(bytes, read.next, kind, table)
+    match kind {
+        Kind::Table => Body {
+            read: bare(Kind::Table, table),
+            next: read.next,
+        },
+        Kind::Gate => read_gate(bytes, read.next, table),
+        Kind::Witness => read_witness(bytes, read.next, table),
+        Kind::Job => read_job(bytes, read.next, table),
+        Kind::Refused(number) => no_body(number),
+    }
 }
 
 // Returns the record that was read, if a position is at the end. Refusals: the record's; 6.
