@@ -49,21 +49,21 @@ abbrev pub otherKind : ℕ
 otherKind = 100
 
 -- what a call says of the records of a family that it takes
-pub record Row (A : Type 0) : Type 0 where
+pub record Case (A : Type 0) : Type 0 where
   pub of : Family
   pub says : Answered A
 
-abbrev pub row : {A : Type 0} → Family → Answered A → Row A
-row f a = record { of = f; says = a }
+abbrev pub case : {A : Type 0} → Family → Answered A → Case A
+case f a = record { of = f; says = a }
 
--- what it says of a family: its row, and `otherKind` if it has none
-unfoldable pub rowOf : {A : Type 0} → List (Row A) → Family → Answered A
-rowOf [] f = refused otherKind
-rowOf (r ∷ rs) f = cond (eqb (kindOf f) (kindOf (r .of))) (r .says) (rowOf rs f)
+-- what it says of a family: its case, and `otherKind` if it has none
+unfoldable pub caseOf : {A : Type 0} → List (Case A) → Family → Answered A
+caseOf [] f = refused otherKind
+caseOf (c ∷ cs) f = cond (eqb (kindOf f) (kindOf (c .of))) (c .says) (caseOf cs f)
 
 -- what it says of the code's kind: what reading refused is passed on
-abbrev pub saidOf : {A : Type 0} → Kind → List (Row A) → Answered A
-saidOf kind rows = andThen (familyOf kind) (rowOf rows)
+abbrev pub saidOf : {A : Type 0} → Kind → List (Case A) → Answered A
+saidOf kind cases = andThen (familyOf kind) (caseOf cases)
 
 -- ---- the code's enums
 
