@@ -28,9 +28,9 @@ both-sides : (t : Table) (count : ℕ → ℕ)
 both-sides t count =
     let of : Bool → ℕ → ℕ = λ side r. onlyIf (sameBool (value t r) side) (count r) in
     let sum : sumBelow (2 ^ t .n) (λ r. of true r + of false r) ≡ sumBelow (2 ^ t .n) (of true) + sumBelow (2 ^ t .n) (of false) =
-        sum-below-add (2 ^ t .n) (of true) (of false) in
+    sum-below-add (2 ^ t .n) (of true) (of false) in
     let all : sumBelow (2 ^ t .n) (λ r. of true r + of false r) ≡ sumBelow (2 ^ t .n) count =
-        sum-below-ext (2 ^ t .n) (λ r. of true r + of false r) count (λ r h. one-side (value t r) (count r)) in
+    sum-below-ext (2 ^ t .n) (λ r. of true r + of false r) count (λ r h. one-side (value t r) (count r)) in
     omega (arith, sum, all, table-total t true count, table-total t false count)
 
 -- what stands on the left as a sum is a difference on the right
