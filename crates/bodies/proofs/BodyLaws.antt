@@ -1,10 +1,11 @@
--- The bodies of records: a job's field after field, as it is written, and how many bytes a body takes at most, so that sums of lengths do not
--- wrap. Assumes nothing.
-use mathlib.Core.Path.{_≡_, _∙_, ap}
+-- The bodies of records: a table's, a job's field after field, and how many bytes a body takes at most, so that sums of lengths do not wrap.
+-- Assumes nothing.
+use mathlib.Core.Path.{_≡_, refl, _∙_, ap}
 use mathlib.Core.List.{List, _++_, append-assoc}
 use Prim.Native.Nat.{ℕ, _+_, _-_, _≤_}
 use native.Mathlib.Omega.{arith}
 use lib.ListN.{length, take, drop, length-append}
+use Rattle.types.specs.declared.table.Table.{Table}
 use Rattle.types.specs.declared.vector.Vector.{Vector}
 use Rattle.job.specs.declared.job.Job.{Job}
 use Rattle.codec.specs.Number.{numberBytes, signedCode}
@@ -18,28 +19,38 @@ use Rattle.codec.proofs.WeightLaws.{weights-most, vector-parts}
 use Rattle.codec.proofs.PairLaws.{row-list-bytes}
 use Rattle.writing.proofs.TableParts.{table-most}
 use Rattle.rowlists.proofs.RowParts.{pairs-most}
-use Rattle.records.specs.Record.{Record, ofTable, ofGate, ofWitness, ofJob, gateVector, jobBytes, bodyBytes, recordBytes}
-use Rattle.bodies.specs.Body.{numbersBytes}
+use Rattle.records.specs.Record.{Record, ofTable, ofGate, ofWitness, ofJob, gateVector, numbersBytes, jobBytes, bodyBytes, recordBytes}
 use Rattle.bodies.proofs.RecordParts.{tableIn, restBytes, kind-and-body, body-parts}
 
--- ---- a job's fields
+-- ---- a table's body, and a job's
 
--- the table, then K, v and s, then the row list
+-- of a table alone it is the table
+pub table-body : (t : Table) → bodyBytes (ofTable t) ≡ tableBytes t
+unfolding bodyBytes
+table-body t = refl
+
+-- of a job the table, then K, v and s, then the row list
 abbrev pub fields : Job → List ℕ
 fields j = (tableBytes (j .table) ++ numbersBytes j) ++ rowListBytes (j .state .counts)
 
 pub job-parts : (j : Job) → bodyBytes (ofJob j) ≡ fields j
 job-parts j = body-parts (ofJob j) ∙ simp append-assoc
 
--- their lengths added up
+-- what follows the table, as it is read: K, then v, then s, then the row list
+pub job-bytes : (j : Job)
+    → jobBytes j
+    ≡ numberBytes (j .state .k) ++ (vectorBytes (j .table .n) (j .state .v) ++ (vectorBytes (j .table .n) (j .state .s) ++ rowListBytes (j .state .counts)))
+job-bytes j = simp append-assoc
+
+-- the lengths of those added up
 pub job-count : (j : Job)
     → length (jobBytes j)
     ≡ length (numberBytes (j .state .k)) + (length (vectorBytes (j .table .n) (j .state .v)) + length (vectorBytes (j .table .n) (j .state .s))) + length (rowListBytes (j .state .counts))
 job-count j =
     let current = vectorBytes (j .table .n) (j .state .v) in
     let copied = vectorBytes (j .table .n) (j .state .s) in
-    let list = rowListBytes (j .state .counts) in
-    omega (arith, length-append (numberBytes (j .state .k)) (current ++ (copied ++ list)), length-append current (copied ++ list), length-append copied list)
+    let number = numberBytes (j .state .k) in
+    omega (arith, length-append (numbersBytes j) (rowListBytes (j .state .counts)), length-append (number ++ current) copied, length-append number current)
 
 -- ---- lengths
 

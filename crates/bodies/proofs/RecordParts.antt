@@ -1,5 +1,5 @@
 -- A record as its kind byte, its table and the rest, and what its rules say of its parts. Assumes nothing.
-use mathlib.Core.Path.{_≡_, refl, sym, _∙_, ap}
+use mathlib.Core.Path.{_≡_, refl, sym, _∙_}
 use mathlib.Core.Logic.{_≢_}
 use mathlib.Core.Bool.{Bool, true, false, not, _||_}
 use mathlib.Core.List.{List, [], _∷_, _++_, append-nil}
@@ -15,10 +15,9 @@ use Rattle.types.specs.declared.witness.Witness.{Witness}
 use Rattle.table.specs.Table.{rows}
 use Rattle.table.specs.Gate.{weightLimit, inRange}
 use Rattle.table.specs.Witness.{unfit, countLimit}
-use Rattle.machine.proofs.RangeLaws.{in-range-correct, in-range-wider}
+use Rattle.function.proofs.RangeLaws.{in-range-correct, in-range-wider}
 use Rattle.job.specs.declared.job.Job.{Job}
-use Rattle.types.specs.declared.stage.Stage.{Stage}
-use Rattle.types.specs.declared.stage.Stage.the-variants.{Open, Found, Looped, Binate}
+use Rattle.types.specs.declared.stage.Stage.the-variants.{Open, Binate}
 use Rattle.job.specs.Sound.{cap, Sound}
 use Rattle.job.proofs.MachineLaws.{binate-ended}
 use Rattle.job.proofs.SoundLaws.{sound-current, sound-copied, sound-count}
@@ -27,10 +26,9 @@ use Rattle.codec.specs.RowList.{rowListBytes}
 use Rattle.cell.specs.Refusal.{Rule, NoneBroken, also}
 use Rattle.cell.specs.Calls.{tableRules, gateRange, gateRules, witnessRange, witnessRules}
 use Rattle.cell.proofs.TableChecked.{others-kept}
-use Rattle.codec.specs.Field.{onward}
-use Rattle.codec.specs.Kind.{Family, kindOf}
-use Rattle.codec.specs.TableField.{tableBytes, tableAt}
-use Rattle.records.specs.Record.{Record, ofTable, ofGate, ofWitness, ofJob, family, gateVector, jobBytes, bodyBytes, recordBytes, restAt, bodyAt}
+use Rattle.codec.specs.Kind.{kindOf}
+use Rattle.codec.specs.TableField.{tableBytes}
+use Rattle.records.specs.Record.{Record, ofTable, ofGate, ofWitness, ofJob, family, gateVector, jobBytes, bodyBytes, recordBytes}
 
 -- the arrays of a record have the lengths of the code's types, as every value of those types has; a sound job's others are part of
 -- soundness
@@ -64,14 +62,6 @@ body-parts (ofTable t) = sym (append-nil (tableBytes t))
 body-parts (ofGate t g) = refl
 body-parts (ofWitness t w) = refl
 body-parts (ofJob j) = refl
-
-pub record-parts : (x : Record) → recordBytes x ≡ (kindOf (family x) ∷ []) ++ (tableBytes (tableIn x) ++ restBytes x)
-record-parts x = kind-and-body x ∙ ap (λ (l : List ℕ). (kindOf (family x) ∷ []) ++ l) (body-parts x)
-
--- every family begins with a table
-pub body-is : (f : Family) (s : List ℕ) (at : ℕ) → bodyAt f s at ≡ onward (tableAt s at) (λ t p. restAt f t s p)
-unfolding bodyAt
-body-is f s at = refl
 
 -- a witness that keeps its ranges is not unfit
 pub fit-from : (a b c : Bool) → a ≡ false → b ≡ true → c ≡ true → (a || not b || not c) ≡ false

@@ -22,8 +22,7 @@ ghost use Rattle.cell.specs.Refusal.{NoneBroken};
 ghost use Rattle.cell.specs.Calls.{gateRules, witnessRules};
 ghost use Rattle.job.specs.Calls.{jobRules};
 ghost use Rattle.codec.specs.Written.{Room, Put};
-ghost use Rattle.records.specs.Record.{ofGate, ofWitness, ofJob, gateVector, bodyBytes};
-ghost use Rattle.bodies.specs.Body.{numbersBytes};
+ghost use Rattle.records.specs.Record.{ofGate, ofWitness, ofJob, gateVector, numbersBytes, bodyBytes};
 
 // Returns the weights and T of a gate as a vector.
 fn vector_of(gate: Gate) -> Vector

@@ -7,7 +7,7 @@ use Rattle.cell.specs.Calls.{checkGate, checkWitness, tableValue, gateValue}
 use Rattle.codec.specs.Kind.{Family, tables, gates, witnesses, kindOf}
 use Rattle.reading.specs.Fields.{familyOf}
 use Rattle.records.specs.declared.read.Read.{Read}
-use Rattle.results.specs.Result.{said, row, saidOf}
+use Rattle.results.specs.Result.{said, case, saidOf}
 
 -- the kind of a record, 1 to 4
 abbrev pub kindIn : Read → Answered ℕ
@@ -15,8 +15,8 @@ kindIn r = andThen (familyOf (r .kind)) (λ (f : Family). answered (kindOf f))
 
 -- whether the gate realises the table, or the witness balances
 abbrev pub checkIn : Read → Answered ℕ
-checkIn r = saidOf (r .kind) (row gates (said (checkGate (r .table) (r .gate))) ∷ row witnesses (said (checkWitness (r .table) (r .witness))) ∷ [])
+checkIn r = saidOf (r .kind) (case gates (said (checkGate (r .table) (r .gate))) ∷ case witnesses (said (checkWitness (r .table) (r .witness))) ∷ [])
 
 -- the table's value on a row, or the gate's: 14
 abbrev pub valueIn : ℕ → Read → Answered ℕ
-valueIn at r = saidOf (r .kind) (row tables (said (tableValue (r .table) at)) ∷ row gates (said (gateValue (r .gate) at)) ∷ [])
+valueIn at r = saidOf (r .kind) (case tables (said (tableValue (r .table) at)) ∷ case gates (said (gateValue (r .gate) at)) ∷ [])

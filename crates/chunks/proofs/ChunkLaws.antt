@@ -23,7 +23,8 @@ use Rattle.numbers.specs.Power.{highest}
 use Rattle.function.proofs.VectorLaws.{length-corrected}
 use Rattle.function.proofs.CountLaws.{length-one-more, one-more-other}
 use Rattle.function.proofs.FailingLaws.{failing-some}
-use Rattle.machine.proofs.RangeLaws.{in-range-correct, in-range-wider, row-in-range}
+use Rattle.function.proofs.RangeLaws.{in-range-correct, in-range-wider}
+use Rattle.machine.proofs.RangeLaws.{row-in-range}
 use Rattle.lanes.specs.Sums.{magnitude, vectorSums, Narrow}
 use Rattle.lanes.specs.Codes.{rowCode, foundCode}
 use Rattle.lanes.proofs.SumsLaws.{sums-narrow, sums-first, magnitude-corrected}
@@ -35,7 +36,7 @@ use Rattle.state.specs.Sound.{cap, Sound}
 use Rattle.chunks.proofs.CodeLaws.{code-below, no-row, row-is}
 use Rattle.state.proofs.MachineLaws.{marked-power, marked-other}
 use Rattle.state.proofs.StepSound.{with-stage-same}
-use Rattle.chunks.proofs.StandsLaws.{Stands, stands-found, stands-row, stands-open, stands-looped, moved, stands-next, Bounded, stands-bounded}
+use Rattle.chunks.proofs.UnsettledLaws.{Unsettled, unsettled-found, unsettled-row, unsettled-open, unsettled-looped, correctedTo, unsettled-next, Bounded, unsettled-bounded}
 use Rattle.chunks.proofs.ClearLaws.{uncounted, cleared-zeros}
 use Rattle.chunks.proofs.FollowLaws.{withVectors, marking, Follows, Searches, Corrects, Compares, Restores}
 use Rattle.function.specs.Function.{level}
@@ -64,7 +65,7 @@ module _ {t : Table} {start : State} {budget : ℕ} (b : Begun t start budget) w
   module _ {m : ℕ} {x : State} {sums copy : List ℤ} (h : m ≤ budget) (c : Follows t start m x sums copy) where
     -- no number of the loop's state wraps in a step
     bounded : Bounded t (withVectors (c .v) (c .s) x)
-    bounded = let few : start .k + m ≤ cap = omega (arith, b .capped) in stands-bounded (b .inputs) (b .sound) few (c .stands)
+    bounded = let few : start .k + m ≤ cap = omega (arith, b .capped) in unsettled-bounded (b .inputs) (b .sound) few (c .unsettled)
 
     -- the sums fit their places
     pub follows-narrow : Narrow 32000 sums × (getD sums 32 (pos 0) ≡ pos 0)
@@ -87,8 +88,8 @@ module _ {t : Table} {start : State} {budget : ℕ} (b : Begun t start budget) w
     abbrev s : Vector
     s = pass .follows .s
 
-    abbrev stands : Stands t start m (withVectors v s x)
-    stands = pass .follows .stands
+    abbrev unsettled : Unsettled t start m (withVectors v s x)
+    unsettled = pass .follows .unsettled
 
     pub passed-bounded : Bounded t (withVectors v s x)
     passed-bounded = bounded (pass .within) (pass .follows)
@@ -121,7 +122,7 @@ module _ {t : Table} {start : State} {budget : ℕ} (b : Begun t start budget) w
     -- where no row is found, the state is found, and stays so
     pub passed-found : {r : State} → next ≡ 512 → Restores x sums copy Stage′.Found r → r ≡ run (functionOf t) budget start
     passed-found is restores =
-        restored restores ∙ stands-found stands budget (pass .within) (ap lowestOf (no-row t v (pass .search) (b .inputs) is))
+        restored restores ∙ unsettled-found unsettled budget (pass .within) (ap lowestOf (no-row t v (pass .search) (b .inputs) is))
 
     module _ (other : next ≢ 512) where
       abbrev row : ℕ
@@ -138,7 +139,7 @@ module _ {t : Table} {start : State} {budget : ℕ} (b : Begun t start budget) w
 
       -- the row that is found is one of the 256
       pub passed-row : next / 2 < 256
-      passed-row = omega (arith, stands-row stands row-found, rows-le (b .inputs))
+      passed-row = omega (arith, unsettled-row unsettled row-found, rows-le (b .inputs))
 
       -- a mark clears the counts of the table's rows, and the others are 0
       pub passed-cleared : {counts : List ℕ} → counts ≡ filled uncounted (oneMore row (x .counts)) (rows t) → counts ≡ zeros
@@ -146,15 +147,15 @@ module _ {t : Table} {start : State} {budget : ℕ} (b : Begun t start budget) w
           e
           ∙ cleared-zeros (oneMore row (x .counts)) (rows t) (length-one-more row (x .counts) ∙ passed-bounded .shaped .counts) (rows-le (b .inputs))
           (λ r past.
-          one-more-other row r (x .counts) (λ e. omega (arith, stands-row stands row-found))
+          one-more-other row r (x .counts) (λ e. omega (arith, unsettled-row unsettled row-found))
           ∙ passed-bounded .past r past)
 
       -- the state is then the machine's
       pub passed-open : {r : State} → budget ≤ m → Restores x sums copy Stage′.Open r → r ≡ run (functionOf t) budget start
       passed-open all restores =
           restored restores
-          ∙ with-stage-same Stage′.Open (withVectors v s x) (stands .stage)
-          ∙ stands-open stands row-found
+          ∙ with-stage-same Stage′.Open (withVectors v s x) (unsettled .stage)
+          ∙ unsettled-open unsettled row-found
           ∙ ap (λ (n : ℕ). run (functionOf t) n start) (omega (arith, pass .within))
 
       -- the vector after the correction by the row
@@ -166,7 +167,7 @@ module _ {t : Table} {start : State} {budget : ℕ} (b : Begun t start budget) w
 
       -- the state after the correction, but for its vectors
       abbrev after : State
-      after = moved row (x .v) x
+      after = correctedTo row (x .v) x
 
       module _ {later : List ℤ} (w : Corrects sums next later) where
         u-sums : later ≡ vectorSums u
@@ -185,7 +186,7 @@ module _ {t : Table} {start : State} {budget : ℕ} (b : Begun t start budget) w
               let kept = in-range-correct k n (s .a) (s .b) .0 (passed-bounded .copied) in
               compares (k + 1) u s u-weights (passed-bounded .shaped .copied)
               (in-range-correct (k + 1) n (u .a) (u .b) .1
-              (row-in-range k n sign row v (stands-row stands row-found) (passed-bounded .shaped .weights) was))
+              (row-in-range k n sign row v (unsettled-row unsettled row-found) (passed-bounded .shaped .weights) was))
               (in-range-correct (k + 1) n (s .a) (s .b) .1 (in-range-wider (k + 1) (omega arith) kept))
               u-sums (pass .follows .copied)
 
@@ -193,7 +194,7 @@ module _ {t : Table} {start : State} {budget : ℕ} (b : Begun t start budget) w
           passed-looped : {r : State} → m < budget → same ≡ true → Restores after later copy Stage′.Looped r → r ≡ run (functionOf t) budget start
           passed-looped more is restores =
               restores u s u-weights (passed-bounded .shaped .copied) u-sums (pass .follows .copied)
-              ∙ stands-looped stands row-found refl refl budget more (sym compared ∙ is)
+              ∙ unsettled-looped unsettled row-found refl refl budget more (sym compared ∙ is)
 
           pub passed-closed : {y : State} {copies : List ℤ} {code : ℕ} → m < budget → same ≡ true → y ≡ after → copies ≡ copy → code ≡ 513
               → Going t start budget (m + 1) y later copies code
@@ -216,7 +217,7 @@ module _ {t : Table} {start : State} {budget : ℕ} (b : Begun t start budget) w
               s = u;
               current = u-sums;
               copied = u-sums;
-              stands = stands-next stands row-found refl refl apart (sym (marked-power (moved row u (withVectors v s x)) power));
+              unsettled = unsettled-next unsettled row-found refl refl apart (sym (marked-power (correctedTo row u (withVectors v s x)) power));
               small = u-small;
             }
 
@@ -228,7 +229,7 @@ module _ {t : Table} {start : State} {budget : ℕ} (b : Begun t start budget) w
               s = s;
               current = u-sums;
               copied = pass .follows .copied;
-              stands = stands-next stands row-found refl refl apart (sym (marked-other (moved row u (withVectors v s x)) power));
+              unsettled = unsettled-next unsettled row-found refl refl apart (sym (marked-other (correctedTo row u (withVectors v s x)) power));
               small = u-small;
             }
 

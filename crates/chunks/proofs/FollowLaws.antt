@@ -1,5 +1,5 @@
 -- Where the loop of `chunk` stands. Its state keeps the vectors that it came with; those of the machine are v and s, whose sums the loop has.
--- With them the state stands where the machine does (`Stands` of StandsLaws), and v is small enough for places of 16 bits. Assumes nothing.
+-- With them the state stands where the machine does (`Unsettled` of UnsettledLaws), and v is small enough for places of 16 bits. Assumes nothing.
 use mathlib.Core.Path.{_≡_, _∙_, ap}
 use mathlib.Core.Bool.{Bool, true}
 use mathlib.Core.List.{List}
@@ -20,7 +20,7 @@ use Rattle.types.specs.declared.stage.Stage.{Stage}
 use Rattle.types.specs.declared.stage.Stage.the-variants as Stage′
 use Rattle.state.specs.Machine.{withStage}
 use Rattle.state.specs.Sound.{Sound}
-use Rattle.chunks.proofs.StandsLaws.{Stands, stands-start}
+use Rattle.chunks.proofs.UnsettledLaws.{Unsettled, unsettled-start}
 use Rattle.table.specs.Table.{functionOf}
 use Rattle.function.specs.Function.{level}
 
@@ -38,7 +38,7 @@ pub record Follows (t : Table) (start : State) (m : ℕ) (x : State) (sums copy 
   pub s : Vector
   pub current : sums ≡ vectorSums v
   pub copied : copy ≡ vectorSums s
-  pub stands : Stands t start m (withVectors v s x)
+  pub unsettled : Unsettled t start m (withVectors v s x)
   pub small : magnitude v ≤ 14000 + 9 * m
 
 -- the sums of a sound open state, where the loop begins
@@ -49,7 +49,7 @@ follows-start {x = x} sound e small current copied = record {
   s = x .s;
   current = current;
   copied = copied;
-  stands = stands-start sound e;
+  unsettled = unsettled-start sound e;
   small = omega arith;
 }
 

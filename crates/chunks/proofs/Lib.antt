@@ -1,5 +1,5 @@
 -- a loop that searches ahead, beside the machine
-pub mod StandsLaws
+pub mod UnsettledLaws
 -- the code of the row that a search found
 pub mod CodeLaws
 -- what clearing the counts leaves

@@ -16,3 +16,5 @@ pub mod Lists
 pub mod Decided
 -- the distance of a row of a table, and the gate rule, by its true inputs
 pub mod TrueInputs
+-- the trace of a table's job, by its rows
+pub mod Traces

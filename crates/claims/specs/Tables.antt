@@ -15,6 +15,7 @@ use Rattle.numbers.specs.Tests.{sameBool}
 use Rattle.types.specs.declared.table.Table.{Table}
 use Rattle.types.specs.declared.vector.Vector.{Vector}
 use Rattle.types.specs.declared.stage.Stage.the-variants.{Open, Binate}
+use Rattle.types.specs.declared.state.State.{State}
 use Rattle.function.specs.Function.{level}
 use Rattle.function.specs.Gate.{distance, gateTrue, Realises}
 use Rattle.function.specs.Witness.{onlyIf, sideSum, Balances, countOf, zeros}
@@ -23,7 +24,7 @@ use Rattle.function.specs.Vector.{sign, correctedBy}
 use Rattle.function.specs.Failing.{fails}
 use Rattle.function.specs.Binate.{binatePlace, binateCounts}
 use Rattle.table.specs.Table.{inputLimit, value, functionOf}
-use Rattle.state.specs.Sound.{Ranged}
+use Rattle.state.specs.Sound.{Ranged, Traced}
 use Rattle.job.specs.Machine.{startJob, fresh}
 
 -- the input of a place is true in row r: bit `place` of r is 1
@@ -75,3 +76,11 @@ pub record TablesAsWritten (t : Table) : Type 0 where
   pub corrected-b : (v : Vector) (r : ℕ) → (correctedBy (value t r) (level 2 r) v) .b ≡ v .b -ℤ sign (value t r)
   -- the components of a sound job are within ±K
   pub ranged : (k : ℕ) (v : Vector) → Ranged ((functionOf t) .top * k) (t .n) v ↔ Ranged k (t .n) v
+  -- its counts add up to K − M, and v is s plus each row's correction times its count: a true row's is added to the a of its true inputs and
+  -- taken from b, on a false row the reverse
+  pub traced : (x : State)
+      → Traced (functionOf t) x
+      ↔ (let sum : Bool → ℕ → ℤ = λ side i. pos (sideSum (functionOf t) side (countOf (x .counts)) i) in
+      (sumBelow (2 ^ t .n) (countOf (x .counts)) + x .mark ≡ x .k)
+      × ((place : ℕ) → place < t .n → getD (x .v .a) place (pos 0) ≡ getD (x .s .a) place (pos 0) +ℤ sum true (suc place) -ℤ sum false (suc place))
+      × (x .v .b ≡ x .s .b -ℤ sum true 0 +ℤ sum false 0))

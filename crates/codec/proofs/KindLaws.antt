@@ -1,6 +1,6 @@
 -- Writing and reading a kind byte are inverse: the byte of a family that is taken is read as the family, and a byte that is read as one is
 -- its own. Assumes nothing.
-use mathlib.Core.Path.{_≡_, refl, sym, _∙_}
+use mathlib.Core.Path.{_≡_, refl}
 use mathlib.Core.Bool.{Bool, true, false, cond}
 use mathlib.Core.List.{List, [], _∷_}
 use Prim.Native.Nat.{ℕ, _+_, _<_}
@@ -8,7 +8,7 @@ use native.Mathlib.Omega.{arith}
 use lib.Dec.{eqb, ltb}
 use lib.ListN.{length, getD}
 use borrow.Author.Tests.{ltb-false, le-ltb, eqb-true}
-use Rattle.cell.specs.Refusal.{Answered, answered, refused, andThen}
+use Rattle.cell.specs.Refusal.{answered, andThen}
 use Rattle.codec.specs.Field.{Field, field}
 use Rattle.codec.specs.Kind.{Family, tables, gates, witnesses, jobs, kindOf, everyFamily, familyIn, kindAt}
 use Rattle.codec.proofs.FieldLaws.{and-then-answered, checked-onward}

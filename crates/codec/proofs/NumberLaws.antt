@@ -11,7 +11,7 @@ use lib.IntN.{ℤ, pos, negsuc}
 use borrow.Author.Tests.{ltb-true, ltb-false, eqb-true, eqb-false, lt-ltb, le-ltb, eq-eqb, ne-eqb}
 use Rattle.table.specs.Gate.{weightLimit, within}
 use Rattle.cell.specs.Refusal.{answered}
-use Rattle.machine.proofs.RangeLaws.{within-correct}
+use Rattle.function.proofs.RangeLaws.{within-correct}
 use Rattle.codec.specs.Field.{Field, Reading, field, onward}
 use Rattle.codec.specs.Number.{groupBytes, numberBytes, lastGroup, groupsAt, numberAt, signedCode, signedOf}
 use Rattle.codec.proofs.FieldLaws.{onward-answered, checked-onward, checked-answered}

@@ -21,11 +21,11 @@ use Rattle.codec.specs.RowList.{pairsFrom, rowListBytes, RowList, Pair, 
 use Rattle.codec.proofs.RisingPairs.{Spans, spans-join, PairRead, PairsRead, Before, before-set, no-pairs, one-pair}
 use Rattle.codec.proofs.RowListParts.{pair-parts, pairs-end, pairs-parts, rows-parts}
 use Rattle.codec.proofs.StandsLaws.{Stands, AllBytes}
-use Rattle.codec.proofs.NumberLaws.{number-written, number-next}
+use Rattle.codec.proofs.NumberLaws.{number-written}
 use Rattle.codec.proofs.PairLaws.{row-list-bytes}
 use Rattle.codec.proofs.CountsLaws.{listed-limit, listed-past, listed-zeros, filled-some}
 
--- ---- whether ranges were kept, and where a list ends
+-- ---- whether ranges were kept
 
 stored-fits : (fits : Bool) (row count : ℕ) (list : RowList) → storedIf fits row count list .kept ≡ true → (fits ≡ true) × (list .kept ≡ true)
 stored-fits true row count list e = (refl, e)
@@ -48,28 +48,11 @@ module _ (strict : Bool) (rows : ℕ) (s : List ℕ) (f : Field RowList) where
       let (g, read, rest) = pairs-parts strict rows left lowest list s at f e in
       kept-after left _ _ (g .next) h rest (rw (pair-parts strict rows lowest s at g read .obeys h) k)
 
-  -- pairs end within the bytes
-  pairs-next : (left lowest : ℕ) (list : RowList) (at : ℕ) → at ≤ length s → pairsAt strict rows left lowest list s at ≡ answered f
-      → f .next ≤ length s
-  pairs-next zero lowest list at h e = rw (← pairs-end strict rows lowest list s at f e) h
-  pairs-next (suc left) lowest list at h e =
-      let (g, read, rest) = pairs-parts strict rows left lowest list s at f e in
-      let parts = pair-parts strict rows lowest s at g read in
-      pairs-next left _ _ (g .next) (number-next s (parts .middle) _ (parts .count-read) .1) rest
-
 -- a strict row list that is read has kept its ranges
 pub strict-kept : (rows : ℕ) (s : List ℕ) (at : ℕ) (f : Field RowList) → rowListAt true rows s at ≡ answered f → f .value .kept ≡ true
 strict-kept rows s at f e =
     let parts = rows-parts true rows s at f e in
     kept-after true rows s f (parts .pairs .value) 0 _ (parts .pairs .next) refl (parts .rest) (parts .obeys refl)
-
--- a row list that is read ends within the bytes
-pub rows-next : (strict : Bool) (rows : ℕ) (s : List ℕ) (at : ℕ) (f : Field RowList) → rowListAt strict rows s at ≡ answered f
-    → f .next ≤ length s
-rows-next strict rows s at f e =
-    let parts = rows-parts strict rows s at f e in
-    let inside = number-next s at (parts .pairs) (parts .pairs-read) .1 in
-    pairs-next strict rows s f (parts .pairs .value) 0 _ (parts .pairs .next) inside (parts .rest)
 
 -- ---- the bytes of what was read
 

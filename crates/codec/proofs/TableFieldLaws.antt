@@ -1,7 +1,7 @@
 -- Writing and reading a table are inverse: the bytes of a table that keeps its format are read as it, and bytes that are read as a table
 -- are its own. Assumes nothing.
 use mathlib.Core.Path.{_≡_, refl, sym, ap, _∙_}
-use mathlib.Core.Bool.{Bool, false, not}
+use mathlib.Core.Bool.{false, not}
 use mathlib.Core.List.{List, [], _∷_, _++_}
 use Prim.Native.Nat.{ℕ, _+_, _-_, _^_, _≤_, _<_}
 use native.Mathlib.Omega.{arith}
@@ -14,12 +14,12 @@ use Rattle.numbers.proofs.TestLaws.{or-false-right, all-at-most-at}
 use Rattle.types.specs.declared.table.Table.{Table}
 use Rattle.table.specs.Table.{inputLimit, rowsOf, bitBytes, byteCount, padded, spareSet}
 use Rattle.table.proofs.TableLaws.{bytes-le}
-use Rattle.cell.specs.Refusal.{rule, answered, checked, NoneBroken, none, also}
+use Rattle.cell.specs.Refusal.{answered, checked, NoneBroken, none, also}
 use Rattle.cell.specs.Calls.{tooManyInputs, spareBits, tableRules}
 use Rattle.cell.proofs.TableChecked.{kept-inputs}
 use Rattle.codec.specs.Field.{Field, Reading, field, onward}
 use Rattle.codec.specs.Number.{numberBytes, numberAt}
-use Rattle.codec.specs.Kind.{Family, tablesAlone, kindAt}
+use Rattle.codec.specs.Kind.{tablesAlone, kindAt}
 use Rattle.codec.specs.TableField.{tableBytes, inputsAt, bitsAt, tableOf, tableAt, tableRecordAt}
 use Rattle.codec.proofs.FieldLaws.{onward-answered, checked-answered}
 use Rattle.codec.proofs.StandsLaws.{Stands, AllBytes, stands-front, stands-back, stands-join, stands-within}

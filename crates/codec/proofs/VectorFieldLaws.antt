@@ -1,5 +1,4 @@
--- The n weights and b of a vector as bytes: what is written is read again, what is read was written, and reading ends within the bytes.
--- Assumes nothing.
+-- The n weights and b of a vector as bytes: what is written is read again, and what is read was written. Assumes nothing.
 use mathlib.Core.Path.{_≡_, refl, sym, _∙_, ap}
 use mathlib.Core.Bool.{Bool, true, false, not, cond, _&&_}
 use mathlib.Core.List.{List}
@@ -17,13 +16,13 @@ use Rattle.table.specs.Gate.{weightLimit, within, inRange}
 use Rattle.cell.specs.Refusal.{answered}
 use Rattle.types.specs.declared.vector.Vector.{Vector}
 use Rattle.function.specs.Vector.{zeroVector}
-use Rattle.machine.proofs.RangeLaws.{within-correct, in-range-correct, in-range-at, in-range-past}
+use Rattle.function.proofs.RangeLaws.{within-correct, in-range-correct, in-range-at, in-range-past}
 use Rattle.codec.specs.Field.{Field, field}
 use Rattle.codec.specs.Number.{numberBytes, numberAt, signedCode, signedOf}
 use Rattle.codec.specs.VectorField.{weightBytes, vectorBytes, signedAt, weightsAt, vectorAt}
 use Rattle.codec.proofs.FieldLaws.{onward-answered, checked-answered}
 use Rattle.codec.proofs.StandsLaws.{Stands, AllBytes, stands-nil, stands-front, stands-back, after-both, both-stand}
-use Rattle.codec.proofs.NumberLaws.{number-read, number-written, number-next, signed-back, code-back, signed-small}
+use Rattle.codec.proofs.NumberLaws.{number-read, number-written, signed-back, code-back, signed-small}
 
 -- ---- a signed number
 
@@ -230,11 +229,3 @@ vector-written strict n s at f h bytes e =
       long = x .long;
       ranged = λ t. range-from n (p .weights .value) (p .last .value) (x .ranged t) (x .kept) (y .ranged t);
     }
-
--- reading a vector ends within the bytes
-pub vector-next : (strict : Bool) (n : ℕ) (s : List ℕ) (at : ℕ) (f : Field Vector) → vectorAt strict n s at ≡ answered f → f .next ≤ length s
-vector-next strict n s at f e =
-    let p = vector-parts strict n s at f e in
-    let q = signed-parts strict s (p .weights .next) (p .last) (p .last-read) in
-    let same : f .next ≡ p .last .next = ap (λ (g : Field Vector). g .next) (p .whole) in
-    omega (arith, number-next s (p .weights .next) (q .code) (q .number), q .next)

@@ -2,7 +2,7 @@
 pub mod FunctionLaws
 -- the gate rule as a test of the weighted sum, and the test that a gate realises a function
 pub mod GateLaws
--- counts with 1 added, and no counts
+-- counts with 1 added, no counts, and the test that two arrays have the same
 pub mod CountLaws
 -- the sums over the rows of one side, and the test that counts balance
 pub mod WitnessLaws

@@ -1,6 +1,6 @@
 -- A gate: its distance and its value on a row, when it realises a function, the test of it, and the range of its numbers (document 01,
--- "Table, gate, witness"). Weights and T are integers of any size. `realises-correct` of proofs/ joins the two. Definitions only. Assumes
--- nothing.
+-- "Table, gate, witness"). `Realises` is of weights and T of any size; `realises-correct` of proofs/ joins `Realises` and `realises`.
+-- Definitions only. Assumes nothing.
 use mathlib.Core.Path.{_≡_}
 use mathlib.Core.Bool.{Bool, true, not, cond, _&&_, _||_}
 use mathlib.Core.List.{List}

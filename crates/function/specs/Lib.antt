@@ -1,8 +1,8 @@
 -- functions of inputs with levels: rows, levels, values, rows that are cared for
 pub mod Function
--- the distance of a row, the gate rule, when a gate realises a function, and the test of it
+-- the distance of a row, the gate rule, when a gate realises a function, the test of it, and the range of a gate's numbers
 pub mod Gate
--- counts of rows, the sums of a side, when they balance, and the test of it
+-- counts of rows, the sums of a side, when they balance, the test of it, and when two are the same
 pub mod Witness
 -- the rows in which an input turns the value
 pub mod Turns

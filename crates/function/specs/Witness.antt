@@ -1,5 +1,6 @@
--- A witness: a count for each row, when it balances, and the test of it (document 01, "Table, gate, witness"; the field's term is a
--- certificate of summability). `balances-correct` of proofs/ joins the two. Definitions only. Assumes nothing.
+-- A witness: a count for each row, when it balances, the test of it, and when two are the same (document 01, "Table, gate, witness"; the
+-- field's term is a certificate of summability). `balances-correct` of proofs/ joins `Balances` and `balances`. Definitions only. Assumes
+-- nothing.
 use mathlib.Core.Path.{_≡_}
 use mathlib.Core.Bool.{Bool, true, false, _&&_, _||_}
 use mathlib.Core.List.{List}

@@ -9,7 +9,8 @@ use Rattle.numbers.proofs.TabulateLaws.{tabulate-getD, filled, filled-none, fil
 use Rattle.types.specs.declared.inputs.Place.{Place}
 use Rattle.cell.specs.Answers.{idle}
 use Rattle.codec.specs.Written.{writtenAt}
-use Rattle.results.specs.Result.{fitted, Returned}
+use Rattle.writers.specs.Calls.{fitted}
+use Rattle.results.specs.Result.{Returned}
 use Rattle.results.proofs.ResultLaws.{returned-bytes}
 use Rattle.inputs.specs.Inputs.{inputByte, inputBytes, word, chowBytes}
 

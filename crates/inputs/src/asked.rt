@@ -8,7 +8,8 @@ ghost use mathlib.Core.List.{[]};
 ghost use lib.ListN.{length};
 ghost use Rattle.cell.specs.Refusal.{NoneBroken};
 ghost use Rattle.cell.specs.Calls.{tableRules};
-ghost use Rattle.results.specs.Result.{fitted, Returned};
+ghost use Rattle.writers.specs.Calls.{fitted};
+ghost use Rattle.results.specs.Result.{Returned};
 ghost use Rattle.inputs.specs.Inputs.{askedBytes};
 
 pub enum Asked {

@@ -6,7 +6,8 @@ use writing::length::signed_code;
 ghost use mathlib.Core.Path.{_≡_};
 ghost use Prim.Native.Nat.{_<_};
 ghost use lib.ListN.{length, getD};
-ghost use Rattle.results.specs.Result.{fitted, Returned};
+ghost use Rattle.writers.specs.Calls.{fitted};
+ghost use Rattle.results.specs.Result.{Returned};
 ghost use Rattle.inputs.specs.Inputs.{inputByte, inputBytes, word, chowBytes};
 
 // Returns the byte of a kind: 0 idle, 1 rising, 2 falling, 3 binate.

@@ -2,8 +2,7 @@
 use cell::refusal::Status;
 use job::job::Job;
 use papers::show;
-use testing::compare::letter;
-use types::stage::Stage;
+use testing::stage;
 use types::vector::Vector;
 use view::shown::Verdict;
 
@@ -25,7 +24,7 @@ pub fn verdict(verdict: Verdict) {
     }
 }
 
-// Writes none for what is all 0, the job's name for what is the job's, else other.
+// Writes none for what is all 0, the part's name for what is the job's, else other.
 pub fn part(name: &[u8], is_zero: bool, is_own: bool) {
     if is_zero {
         show::word(b" none");
@@ -55,7 +54,7 @@ pub fn job(job: Job) {
     let counts = state.counts;
     pairs(counts);
     let stage = state.stage;
-    stage_of(stage);
+    stage::show(stage);
 }
 
 // Writes K and M.
@@ -64,12 +63,6 @@ fn numbers(k: u32, mark: u32) {
     show::number(k as u64);
     show::word(b" M");
     show::number(mark as u64);
-}
-
-// Writes a stage's letter.
-fn stage_of(stage: Stage) {
-    show::word(b" stage ");
-    show::word(&[letter(stage)]);
 }
 
 // Writes v and s.

@@ -1,13 +1,13 @@
-// Carries the job of each vector on by one call, shows what came of it, and does the same in many small calls. Prints a line for each
-// vector, a second one where the job was still open, and last the numbers of verdicts and the sum of K over the gates.
+// Carries the job of each function on by one call, shows what came of it, and does the same in many small calls. Prints a line for each
+// function, a second one where the job was still open, and last the numbers of verdicts and the sum of K over the gates.
 mod call;
+mod function;
 mod split;
-mod vector;
 
+use function::Outcome;
 use papers::data::FUNCTIONS;
 use papers::line::line_end;
 use papers::show;
-use vector::Outcome;
 ghost use Prim.Native.Nat.{_^_, _≤_, _<_};
 ghost use lib.ListN.{length};
 
@@ -40,7 +40,7 @@ fn run(lines: &[u8])
     let mut at: usize = 0;
     while at < lines.len() {
         let end = line_end(lines, at);
-        let outcome = vector::run(&lines[at..end]);
+        let outcome = function::run(&lines[at..end]);
         gates = gates + has_letter(outcome, b'G');
         witnesses = witnesses + has_letter(outcome, b'N');
         given_up = given_up + has_letter(outcome, b'S');

@@ -1,8 +1,8 @@
 // A job carried on in many small calls.
 use job::job::Job;
 use papers::show;
-use testing::compare::letter;
 use testing::compare::same_job;
+use testing::stage::letter;
 use types::table::Table;
 
 // The most calls: with budgets 1 to 400 they make up to 80,200 corrections.

@@ -15,7 +15,7 @@ use borrow.Author.Tests.{lt-ltb, le-ltb}
 use Rattle.numbers.specs.Sum.{sumBelow, weightedSum}
 use Rattle.numbers.proofs.Int.{natAbs-parts, parts-neg, size-add, size-mul, up, dn}
 use Rattle.numbers.proofs.SumLaws.{sum-below-suc, sum-below-add, sum-below-le, sum-below-term, sum-below-most, weighted-sum-nil, weighted-sum-suc, weighted-sum-ext, weighted-sum-zero}
-use Rattle.numbers.proofs.TabulateLaws.{length-tabulate, getD-tabulate}
+use Rattle.numbers.proofs.TabulateLaws.{getD-tabulate}
 use Rattle.function.specs.Function.{level}
 use Rattle.function.specs.Gate.{distance}
 use Rattle.function.specs.Witness.{inputLevel}
@@ -27,11 +27,6 @@ use Rattle.machine.proofs.DistanceLaws.{partner-distance}
 use Rattle.lanes.specs.Sums.{placeSum, vectorSums, magnitude, Narrow}
 
 -- ---- the places
-
--- there are 40 sums
-pub length-sums : (v : Vector) → length (vectorSums v) ≡ 40
-unfolding vectorSums
-length-sums v = length-tabulate (placeSum v) 40
 
 -- each place has its sum
 pub sums-at : (v : Vector) (q : ℕ) → q < 40 → getD (vectorSums v) q (pos 0) ≡ placeSum v q

@@ -15,7 +15,7 @@ use Rattle.function.specs.Gate.{distance}
 use Rattle.table.proofs.TableLaws.{level-past}
 use Rattle.types.specs.declared.vector.Vector.{Vector}
 use Rattle.function.proofs.VectorLaws.{vector-eq}
-use Rattle.machine.proofs.RangeLaws.{InRange, in-range-past}
+use Rattle.function.proofs.RangeLaws.{InRange, in-range-past}
 use Rattle.machine.proofs.DistanceLaws.{partner-distance, distance-zero}
 use Rattle.lanes.specs.Sums.{vectorSums}
 use Rattle.lanes.specs.Blocks.{blocksOf}

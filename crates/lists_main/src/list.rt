@@ -7,11 +7,10 @@ use papers::line::table_of;
 use papers::show;
 use papers::text::first;
 use papers::text::word;
-use testing::compare::letter;
 use testing::compare::same_job;
 use testing::make;
+use testing::stage;
 use testing::tally;
-use types::stage::Stage;
 
 // How many calls a list has.
 const CALLS: u32 = 300;
@@ -100,12 +99,6 @@ fn show_sums(budgets: u64, made: u64, k: u32) {
     show::number(k as u64);
 }
 
-// Prints a stage.
-fn show_stage(stage: Stage) {
-    show::word(b" stage ");
-    show::word(&[letter(stage)]);
-}
-
 // Prints the list's name, the numbers that its calls gave, the sums, K, the stage, and whether the job is that of an unbroken run.
 pub fn run(line: &[u8]) {
     let first_job = start(line);
@@ -117,7 +110,7 @@ pub fn run(line: &[u8]) {
     tally::print(b" carried", calls.carried);
     tally::print(b" saved", calls.saved);
     show_sums(calls.budgets, calls.made, state.k);
-    show_stage(stage);
+    stage::show(stage);
     show::same(same_job(job, unbroken(first_job, calls.budgets)));
     show::word(b"\n");
 }

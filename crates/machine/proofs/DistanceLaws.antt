@@ -14,7 +14,7 @@ use Rattle.function.specs.Function.{level}
 use Rattle.function.specs.Gate.{distance}
 use Rattle.table.proofs.TableLaws.{level-lt, level-past, partner-level}
 use Rattle.function.proofs.FunctionLaws.{unit}
-use Rattle.machine.proofs.RangeLaws.{InRange, in-range-at}
+use Rattle.function.proofs.RangeLaws.{InRange, in-range-at}
 
 -- the level 1 at one place alone sums to its weight
 weighted-sum-unit : (ws : List ℤ) (place : ℕ) → weightedSum ws (unit place) ≡ getD ws place (pos 0)

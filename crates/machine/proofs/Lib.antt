@@ -1,4 +1,4 @@
--- the range of a vector, and how a correction widens it
+-- a correction by a row of a table widens the range of a vector by 1
 pub mod RangeLaws
 -- the distance of a partner and of row 0, and the size of a distance
 pub mod DistanceLaws

@@ -1,4 +1,4 @@
--- The range of a vector by the rows of a table. Assumes nothing.
+-- How a correction by a row of a table widens the range of a vector. Assumes nothing.
 use mathlib.Core.Path.{_≡_}
 use mathlib.Core.Bool.{Bool}
 use Prim.Native.Nat.{ℕ, _+_, _^_, _<_}
@@ -9,9 +9,8 @@ use Rattle.function.specs.Function.{level}
 use Rattle.function.specs.Vector.{correctedBy}
 use Rattle.table.proofs.TableLaws.{level-lt, level-past}
 use Rattle.function.proofs.RangeLaws.{InRange, corrected-in-range}
-pub use Rattle.function.proofs.RangeLaws.{InRange, within-correct, in-range-correct, place-limit-le, place-limit-past, place-limit-more, zero-in-range, corrected-in-range, in-range-at, in-range-past, in-range-wider}
 
--- a correction by a row of n inputs of a table widens it by 1
+-- a correction by a row of n inputs widens it by 1
 pub row-in-range : (limit n : ℕ) (y : Bool) (r : ℕ) (v : Vector) → r < 2 ^ n → length (v .a) ≡ 8 → InRange limit n (v .a) (v .b)
     → InRange (limit + 1) n ((correctedBy y (level 2 r) v) .a) ((correctedBy y (level 2 r) v) .b)
 row-in-range limit n y r v h =

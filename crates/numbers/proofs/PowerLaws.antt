@@ -1,7 +1,7 @@
 -- Laws of powers of two: the one that code makes by a shift; and of `highest`, the one that a mark is set at, what it is, that it is the only
 -- one, and how it goes on from a number to the next. Assumes nothing.
 use mathlib.Core.Path.{_≡_, refl, sym, _∙_, ap}
-use mathlib.Core.Bool.{true, false}
+use mathlib.Core.Bool.{false}
 use Prim.Native.Nat.{ℕ, zero, suc, _+_, _*_, _-_, _%_, _^_, _≤_, _<_}
 use native.Mathlib.Nat.{one-mul, mod-eq-of-lt}
 use native.Mathlib.Decide.{decLe}
@@ -9,7 +9,7 @@ use native.Mathlib.Omega.{arith}
 use lib.Dec.{eqb}
 use lib.Pow.{pow-lt, pow-mono}
 use lib.Count.{leadingZeros, leading-top}
-use borrow.Author.Tests.{eqb-true, eqb-false, ne-eqb}
+use borrow.Author.Tests.{eqb-false, ne-eqb}
 use Rattle.numbers.specs.Power.{highest}
 
 -- 1 shifted by fewer places than a word has loses nothing
@@ -61,14 +61,6 @@ highest-unique k p q s t =
 pub highest-le : (k : ℕ) → k < 2 ^ 32 → highest k ≤ k
 highest-le zero l = omega (arith, highest-zero)
 highest-le (suc k) l = highest-top (suc k) (omega arith) l .low
-
--- above 0 it is above 0
-pub highest-pos : (k : ℕ) → 0 < k → k < 2 ^ 32 → 0 < highest k
-highest-pos k h l = omega (arith, highest-top k h l .high)
-
--- a power of two is its own
-pub highest-suc-power : (k : ℕ) → eqb (highest (k + 1)) (k + 1) ≡ true → highest (k + 1) ≡ k + 1
-highest-suc-power k e = eqb-true (highest (k + 1)) (k + 1) e
 
 -- the number before one that is no power of two has the same
 pub highest-suc : (k : ℕ) → k + 1 < 2 ^ 32 → eqb (highest (k + 1)) (k + 1) ≡ false → highest (k + 1) ≡ highest k

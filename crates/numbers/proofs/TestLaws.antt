@@ -26,11 +26,6 @@ pub not-passed : (a : Bool) → (a ≡ true → ⊥) → a ≡ false
 not-passed true h = absurd (h refl)
 not-passed false h = refl
 
--- a test that does not fail passes
-pub not-failed : (a : Bool) → (a ≡ false → ⊥) → a ≡ true
-not-failed true h = refl
-not-failed false h = absurd (h refl)
-
 -- both tests pass: the first does
 pub and-left : (a b : Bool) → (a && b) ≡ true → a ≡ true
 and-left true b e = refl

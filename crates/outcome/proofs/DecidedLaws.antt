@@ -5,11 +5,11 @@ use mathlib.Core.Logic.{_≢_}
 use mathlib.Core.List.{[], _∷_}
 use Prim.Native.Nat.{ℕ, _+_, _≤_}
 use native.Mathlib.Omega.{arith}
-use borrow.Author.Tests.{le-ltb, ltb-false}
+use borrow.Author.Tests.{ltb-false}
 use Rattle.types.specs.declared.table.Table.{Table}
 use Rattle.cell.specs.Refusal.{Answered, answered, refused, checked, NoneBroken, none, also, andThen}
 use Rattle.cell.specs.Calls.{tableRules}
-use Rattle.cell.proofs.RefusalLaws.{none-broken-answered, answered-none-broken}
+use Rattle.cell.proofs.RefusalLaws.{answered-none-broken}
 use Rattle.cell.proofs.TableChecked.{kept-inputs, table-kept}
 use Rattle.cell.specs.declared.refusal.Status.the-variants as Status′
 use Rattle.job.specs.declared.job.Job.{Job}
@@ -18,9 +18,9 @@ use Rattle.types.specs.declared.stage.Stage.{Stage}
 use Rattle.types.specs.declared.stage.Stage.the-variants.{Open}
 use Rattle.job.specs.Machine.{run, fresh, decided}
 use Rattle.job.specs.Sound.{cap, Sound}
-use Rattle.job.specs.Calls.{callBudget, freshJob, jobRules, budgetRange, pastCap, ifOpen, carryOn, carried}
+use Rattle.job.specs.Calls.{callBudget, jobRules, budgetRange, pastCap, ifOpen, carryOn, carried}
 use Rattle.outcome.specs.Outcome.{outcomeWritten, handedBack, withMade}
-use Rattle.job.proofs.MachineLaws.{fresh-table, fresh-k, open-or-ended, run-ended, run-table}
+use Rattle.job.proofs.MachineLaws.{fresh-table, fresh-k, open-or-ended, run-table}
 use Rattle.job.proofs.SoundLaws.{is-sound-correct}
 use Rattle.job.proofs.Soundness.{fresh-sound, run-sound-from}
 use Rattle.job.proofs.JobChecked.{kept-sound, job-others-kept, job-all-kept, if-open-ended}

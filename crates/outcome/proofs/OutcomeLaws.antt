@@ -20,9 +20,8 @@ use Rattle.job.specs.Calls.{jobRules, isEnded, gateOf, witnessOf}
 use Rattle.job.proofs.JobChecked.{kept-sound}
 use Rattle.theory.proofs.Answers.{EndedWithout, found-accepted, ended-accepted}
 use Rattle.records.specs.Record.{ofGate, ofWitness, ofJob, recordBytes}
-use Rattle.writers.specs.Calls.{hasEnded, tooShort, writeRecord}
+use Rattle.writers.specs.Calls.{hasEnded, tooShort, fitted, writeRecord}
 use Rattle.bodies.proofs.BodyLaws.{record-most}
-use Rattle.results.specs.Result.{fitted}
 use Rattle.outcome.specs.Outcome.{outcomeIn, outcome, outcomeWritten}
 
 module _ (j : Job) (kept : NoneBroken (jobRules j [])) (room : ℕ) where

@@ -13,7 +13,8 @@ use Rattle.job.specs.declared.job.Job.{Job}
 use Rattle.job.specs.Machine.{fresh, decided}
 use Rattle.job.specs.Calls.{carryOn, gateOf, witnessOf}
 use Rattle.records.specs.Record.{Record, ofGate, ofWitness, ofJob, recordBytes}
-use Rattle.results.specs.Result.{fitted, Returned}
+use Rattle.writers.specs.Calls.{fitted}
+use Rattle.results.specs.Result.{Returned}
 
 -- a job is a table with a state of the machine on it
 abbrev pub jobOf : Table → State → Job

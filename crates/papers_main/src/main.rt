@@ -1,6 +1,6 @@
-// Runs the checked calls over the vectors and prints a line for each, then their number and whether the places past n were
+// Runs the checked calls over the functions and prints a line for each, then their number and whether the places past n were
 // idle and 0 in every one.
-mod vector;
+mod function;
 
 use papers::data::FUNCTIONS;
 use papers::line::line_end;
@@ -8,23 +8,23 @@ use papers::show;
 
 // Runs each line, and prints the last two.
 fn run(lines: &[u8]) {
-    let mut vectors: u64 = 0;
+    let mut functions: u64 = 0;
     let mut all_idle = true;
     let mut at: usize = 0;
     while at < lines.len() {
         let end = line_end(lines, at);
-        let idle = vector::run(&lines[at..end]);
+        let idle = function::run(&lines[at..end]);
         all_idle = all_idle && idle;
-        vectors = vectors + 1;
+        functions = functions + 1;
         at = end + 1;
     }
-    summary(vectors, all_idle);
+    summary(functions, all_idle);
 }
 
-// Prints the number of vectors, and whether the places past n were idle and 0 in all.
-fn summary(vectors: u64, all_idle: bool) {
+// Prints the number of functions, and whether the places past n were idle and 0 in all.
+fn summary(functions: u64, all_idle: bool) {
     show::word(b"vectors");
-    show::number(vectors);
+    show::number(functions);
     show::word(b"\npast n: ");
     if all_idle {
         show::word(b"idle and 0 in all vectors\n");

@@ -6,13 +6,13 @@ use denote.Ref.{RefT}
 use Rattle.readers.specs.declared.reader.Reader.{Reader}
 
 -- it has these bytes, and has reached this position
-abbrev pub Stands : RefT (List ℕ) → ℕ → Reader → Type 0
-Stands s n r = (r .src ≡ s) × (r .at ≡ n)
+abbrev pub ReaderAt : RefT (List ℕ) → ℕ → Reader → Type 0
+ReaderAt s n r = (r .src ≡ s) × (r .at ≡ n)
 
 -- it starts at the first of the bytes
 abbrev pub Starts : RefT (List ℕ) → Reader → Type 0
-Starts s r = Stands s 0 r
+Starts s r = ReaderAt s 0 r
 
 -- it has the bytes of another, and has reached a position given
 abbrev pub MovedTo : Reader → ℕ → Reader → Type 0
-MovedTo r n q = Stands (r .src) n q
+MovedTo r n q = ReaderAt (r .src) n q

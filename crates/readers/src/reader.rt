@@ -5,14 +5,14 @@ use reading::kind::Takes;
 use reading::kind::read_kind;
 use reading::tables::TableField;
 use reading::tables::table_after;
-use records::read::Body;
 use records::read::Read;
+use records::read::RecordField;
 use records::read::body_at;
 use records::read::end_at;
 ghost use mathlib.Core.Path.{_≡_};
 ghost use Rattle.codec.specs.Kind.{kindAt};
 ghost use Rattle.reading.specs.Fields.{kindField, tableBy, tableField, takenBy};
-ghost use Rattle.records.specs.Calls.{asBody, bodyBy, ended};
+ghost use Rattle.records.specs.Calls.{recordField, bodyBy, ended};
 ghost use Rattle.readers.specs.Reader.{MovedTo, Starts};
 
 pub struct Reader<'a> {
@@ -42,14 +42,14 @@ pub fn kind<'a>(r: Reader<'a>, takes: Takes) -> KindField
 }
 
 // Reads what follows a kind that was read. Refusals: the kind's; 1, 4, 2, 3 of the table; 7, 8 or 9 by the kind.
-pub fn body<'a>(r: Reader<'a>, kind: KindField) -> Body
-    ensures { λ q. ⌜ q ≡ asBody (bodyBy (kind .kind) (now (r .entry .src)) (r .entry .at)) ⌝ }
+pub fn body<'a>(r: Reader<'a>, kind: KindField) -> RecordField
+    ensures { λ q. ⌜ q ≡ recordField (bodyBy (kind .kind) (now (r .entry .src)) (r .entry .at)) ⌝ }
 {
     body_at(r.src, r.at, kind)
 }
 
 // Returns the record that was read, if the reader has reached the end. Refusals: the record's; 6.
-pub fn end<'a>(r: Reader<'a>, body: Body) -> Read
+pub fn end<'a>(r: Reader<'a>, body: RecordField) -> Read
     ensures { λ q. ⌜ q ≡ ended (body .read) (now (r .entry .src)) (r .entry .at) ⌝ }
 {
     end_at(r.src, r.at, body)

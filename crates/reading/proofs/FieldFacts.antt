@@ -1,6 +1,6 @@
 -- What the struct that a reader returned says of the field: the number of a refusal, or the value and the position after it. One law for
 -- every struct of fields, and its two uses for each. Assumes nothing.
-use mathlib.Core.Path.{_≡_, refl, sym, _∙_, ap, subst}
+use mathlib.Core.Path.{_≡_, refl, sym, _∙_, ap}
 use mathlib.Core.Logic.{⊎-elim}
 use Prim.Native.Nat.{ℕ}
 use native.Mathlib.Omega.{arith}
@@ -17,7 +17,6 @@ use Rattle.codec.specs.Field.{Field, Reading, field, onward}
 use Rattle.codec.specs.Kind.{Family, tables, gates, witnesses, jobs}
 use Rattle.types.specs.declared.kind.Kind.{Kind}
 use Rattle.types.specs.declared.kind.Kind.the-variants as Kind′
-use Rattle.reading.specs.declared.kind.KindField.{KindField}
 use Rattle.reading.specs.declared.number.NumberField.{NumberField}
 use Rattle.reading.specs.declared.vector.SignedField.{SignedField}
 use Rattle.reading.specs.declared.vector.VectorField.{VectorField}
@@ -150,16 +149,3 @@ kind-family (Kind′.Refused n) w = absurd (none w)
 
 pub whole-family : (r : Answered Family) → Whole (asKind r) → (f : Family) × (r ≡ answered f)
 whole-family r w = let (f, is) = kind-family (asKind r) w in (f, sym (family-back r) ∙ is)
-
--- it was refused
-pub kind-refused : (r : Reading Family) {x : KindField} {n : ℕ} → x ≡ kindField r → x .kind ≡ Kind′.Refused n → r ≡ refused n
-kind-refused (answered f) {x} {n} e k =
-    let number : answered (f .value) ≡ refused n = sym (family-back (answered (f .value))) ∙ ap familyOf (ap (λ (y : KindField). y .kind) (sym e) ∙ k) in
-    let z : _≡_ {A = ℕ} 0 1 = cc in
-    absurd (omega arith)
-kind-refused (refused m) e k = cc
-
--- it was read: its kind is of a family
-pub kind-done : (r : Reading Family) {x : KindField} → x ≡ kindField r → Whole (x .kind) → (f : Family) × (r ≡ answered (field f (x .next)))
-kind-done (answered g) {x} e k = (g .value, ap (λ (y : KindField). answered (field (g .value) (y .next))) (sym e))
-kind-done (refused n) {x} e k = let none = whole-family (refused n) (subst (λ (y : KindField). Whole (y .kind)) e k) .1 in let z : _≡_ {A = ℕ} 0 1 = cc in absurd (omega arith)

@@ -1,6 +1,6 @@
 -- Weights read place by place, as `read_vector` reads them: those still ahead, put into the array so far, give the vector's weights, and
 -- one law for each way that the next weight, or b, can go. Assumes nothing.
-use mathlib.Core.Path.{_≡_, refl, _∙_, ap}
+use mathlib.Core.Path.{_≡_, _∙_, ap}
 use mathlib.Core.Bool.{Bool}
 use mathlib.Core.List.{List}
 use Prim.Native.Nat.{ℕ, suc, _+_, _-_, _≤_, _<_}

@@ -1,6 +1,6 @@
 -- The reading of a table, one way through its definitions at a time: the array that bytes are copied into, the bits of rows, n, and the
 -- table of both; and a kind with the table that follows it. Assumes nothing.
-use mathlib.Core.Path.{_≡_, refl, sym, _∙_, ap}
+use mathlib.Core.Path.{_≡_, sym, _∙_, ap}
 use mathlib.Core.Bool.{true, false}
 use mathlib.Core.List.{List, _++_}
 use Prim.Native.Nat.{ℕ, _+_, _-_, _≤_, _<_}
@@ -11,9 +11,9 @@ use lib.ListN.{length, getD, set, take, drop, replicate, length-drop, length-rep
 use lib.Seq.{paste-suc, drop-at, length-take-le, getD-drop}
 use borrow.Author.Tests.{lt-ltb, le-ltb}
 use Rattle.table.specs.Table.{rowsOf, bitBytes, padded, spareSet}
-use Rattle.cell.specs.Refusal.{Answered, answered, refused, andThen}
-use Rattle.codec.specs.Field.{Field, Reading, field, onward}
-use Rattle.codec.specs.Kind.{Family, tablesAlone, kindAt}
+use Rattle.cell.specs.Refusal.{answered, refused}
+use Rattle.codec.specs.Field.{Field, field}
+use Rattle.codec.specs.Kind.{tablesAlone, kindAt}
 use Rattle.codec.specs.Number.{numberAt}
 use Rattle.codec.specs.TableField.{inputsAt, bitsAt, tableOf, tableAt, tableRecordAt}
 use Rattle.reading.specs.Fields.{kindField, tableBy, tableField}

@@ -1,21 +1,19 @@
 -- A record read by a reader that travels: its kind byte, what follows it, and the end. Each step's struct leaves what the next one needs, and
 -- a refusal is passed on to the last. Assumes nothing.
-use mathlib.Core.Path.{_≡_, refl, sym, _∙_, ap}
+use mathlib.Core.Path.{_≡_, refl, _∙_, ap}
 use mathlib.Core.Bool.{Bool, true, false, cond}
 use mathlib.Core.List.{List, [], _∷_}
 use Prim.Native.Nat.{ℕ, _+_}
 use lib.Dec.{ltb, eqb}
 use lib.ListN.{length, getD}
 use Rattle.cell.specs.Refusal.{Answered, rule, answered, refused, andThen, checked}
-use Rattle.codec.specs.Field.{Field, Reading, field, onward}
+use Rattle.codec.specs.Field.{Reading, field, onward}
 use Rattle.codec.specs.Kind.{Family, tables, everyFamily, tablesAlone, familyIn, kindAt}
 use Rattle.codec.specs.TableField.{tableAt, tableRecordAt}
 use Rattle.reading.specs.Fields.{familyOf, kindField}
 use Rattle.reading.proofs.FieldFacts.{after-kind}
-use Rattle.records.specs.declared.read.Read.{Read}
-use Rattle.records.specs.declared.read.Body.{Body}
 use Rattle.records.specs.Record.{Record, ofTable, ofGate, ofWitness, ofJob, family, bodyAt, bytesLeft, recordAt, singleAt}
-use Rattle.records.specs.Calls.{asRead, asBody, bodyBy, endIn, ended}
+use Rattle.records.specs.Calls.{asRead, recordField, bodyBy, endIn, ended}
 
 -- the kind beside a record is that of its family
 read-family : (x : Record) → familyOf (asRead (answered x) .kind) ≡ answered (family x)
@@ -33,7 +31,7 @@ end-by f x true s next e = rw e
 end-by f x false s next e = rw e
 
 -- the end of a body that was read where it ended
-pub body-ended : (s : List ℕ) (r : Reading Record) → ended (asBody r .read) s (asBody r .next) ≡ asRead (onward r (atEnd s))
+pub body-ended : (s : List ℕ) (r : Reading Record) → ended (recordField r .read) s (recordField r .next) ≡ asRead (onward r (atEnd s))
 body-ended s (answered f) =
     ap (λ (a : Answered Family). endIn a (asRead (answered (f .value))) (checked (bytesLeft s (f .next) ∷ []) (answered (asRead (answered (f .value)))))) (read-family (f .value))
     ∙ end-by (family (f .value)) (f .value) (ltb (f .next) (length s)) s (f .next) refl
@@ -41,12 +39,12 @@ body-ended s (refused n) = refl
 
 -- a whole record
 pub record-read : (s : List ℕ) (at : ℕ)
-    → (let k = kindField (kindAt everyFamily s at) in let b = asBody (bodyBy (k .kind) s (k .next)) in ended (b .read) s (b .next)) ≡ asRead (singleAt s at)
+    → (let k = kindField (kindAt everyFamily s at) in let b = recordField (bodyBy (k .kind) s (k .next)) in ended (b .read) s (b .next)) ≡ asRead (singleAt s at)
 unfolding recordAt singleAt
 record-read s at =
-    ap (λ (r : Reading Record). let b = asBody r in ended (b .read) s (b .next)) (after-kind bodyAt s (kindAt everyFamily s at)) ∙ body-ended s (recordAt everyFamily s at)
+    ap (λ (r : Reading Record). let b = recordField r in ended (b .read) s (b .next)) (after-kind bodyAt s (kindAt everyFamily s at)) ∙ body-ended s (recordAt everyFamily s at)
 
--- a report's record is what is read where tables alone are taken
+-- for the reader: a report's record is what is read where tables alone are taken
 pub table-alone : (s : List ℕ) (at : ℕ) → recordAt tablesAlone s at ≡ onward (tableRecordAt s at) (λ t next. answered (field (ofTable t) next))
 unfolding familyIn tableRecordAt bodyAt recordAt
 table-alone s at = by (ltb (length s) (at + 1)) (eqb (getD s at 0) 1)

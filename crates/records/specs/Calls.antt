@@ -1,7 +1,6 @@
 -- What reading a record gives (document 01, "Records" and "Who causes which number"). Definitions only. Assumes nothing.
 use mathlib.Core.List.{List, [], _∷_}
 use Prim.Native.Nat.{ℕ}
-use Rattle.types.specs.declared.table.Table.{Table}
 use Rattle.types.specs.declared.gate.Gate.{Gate}
 use Rattle.types.specs.declared.witness.Witness.{Witness}
 use Rattle.cell.specs.Refusal.{Answered, answered, refused, andThen, checked}
@@ -16,8 +15,8 @@ use Rattle.types.specs.declared.kind.Kind.{Kind}
 use Rattle.types.specs.declared.kind.Kind.the-variants as Kind′
 use Rattle.reading.specs.Fields.{familyOf, noTable}
 use Rattle.records.specs.declared.read.Read.{Read}
-use Rattle.records.specs.declared.read.Body.{Body}
-use Rattle.records.specs.Record.{Record, ofTable, ofGate, ofWitness, ofJob, restAt, bodyAt, bytesLeft}
+use Rattle.records.specs.declared.read.RecordField.{RecordField}
+use Rattle.records.specs.Record.{Record, ofTable, ofGate, ofWitness, ofJob, bodyAt, bytesLeft}
 
 -- what stands beside a record that is no job: the job of no inputs with all numbers 0
 abbrev pub noJob : Job
@@ -32,13 +31,9 @@ asRead (answered (ofJob j)) = record { kind = Kind′.Job; table = j .table; gat
 asRead (refused n) = record { kind = Kind′.Refused n; table = noTable; gate = noGate; witness = noWitness; job = noJob }
 
 -- a record that is not yet ended: the position after it, 0 beside a refusal
-abbrev pub asBody : Reading Record → Body
-asBody (answered f) = record { read = asRead (answered (f .value)); next = f .next }
-asBody (refused n) = record { read = asRead (refused n); next = 0 }
-
--- what follows the table of a kind that was read; a refused one is passed on
-abbrev pub restBy : Kind → Table → List ℕ → ℕ → Reading Record
-restBy kind t s at = andThen (familyOf kind) (λ f. restAt f t s at)
+abbrev pub recordField : Reading Record → RecordField
+recordField (answered f) = record { read = asRead (answered (f .value)); next = f .next }
+recordField (refused n) = record { read = asRead (refused n); next = 0 }
 
 -- what follows a kind that was read; a refused one is passed on
 abbrev pub bodyBy : Kind → List ℕ → ℕ → Reading Record

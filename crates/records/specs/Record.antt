@@ -1,5 +1,5 @@
 -- A record: its bytes, and what bytes mean (document 01, "Records" and "Who causes which number"). Definitions only. Assumes nothing.
-use mathlib.Core.Bool.{Bool, true, false, not, _&&_}
+use mathlib.Core.Bool.{true, false, not, _&&_}
 use mathlib.Core.List.{List, [], _∷_, _++_}
 use Prim.Native.Nat.{ℕ}
 use lib.Dec.{ltb}
@@ -43,8 +43,11 @@ gateVector g = record { a = g .weights; b = g .threshold }
 -- ---- written
 
 -- after the table, kind 4 has K, v, s, and a row list
+abbrev pub numbersBytes : Job → List ℕ
+numbersBytes j = (numberBytes (j .state .k) ++ vectorBytes (j .table .n) (j .state .v)) ++ vectorBytes (j .table .n) (j .state .s)
+
 abbrev pub jobBytes : Job → List ℕ
-jobBytes j = numberBytes (j .state .k) ++ (vectorBytes (j .table .n) (j .state .v) ++ (vectorBytes (j .table .n) (j .state .s) ++ rowListBytes (j .state .counts)))
+jobBytes j = numbersBytes j ++ rowListBytes (j .state .counts)
 
 -- what follows the kind byte
 unfoldable pub bodyBytes : Record → List ℕ
@@ -86,16 +89,16 @@ abbrev pub jobAt : Table → List ℕ → ℕ → Reading Record
 jobAt t s at =
     onward (numberAt s at) (λ k p. onward (vectorAt false (t .n) s p) (λ v q. onward (vectorAt false (t .n) s q) (λ w r. countsAt t k v w s r)))
 
--- what follows the table, by the family
-abbrev pub restAt : Family → Table → List ℕ → ℕ → Reading Record
-restAt tables t s at = answered (field (ofTable t) at)
-restAt gates t s at = gateAt t s at
-restAt witnesses t s at = witnessAt t s at
-restAt jobs t s at = jobAt t s at
+-- a table, and what follows it
+abbrev pub afterTable : (Table → List ℕ → ℕ → Reading Record) → List ℕ → ℕ → Reading Record
+afterTable rest s at = onward (tableAt s at) (λ t p. rest t s p)
 
--- what follows the kind byte: the table, and the rest by the family
+-- what follows the kind byte, by the family
 unfoldable pub bodyAt : Family → List ℕ → ℕ → Reading Record
-bodyAt f s at = onward (tableAt s at) (λ t p. restAt f t s p)
+bodyAt tables s at = afterTable (λ t s p. answered (field (ofTable t) p)) s at
+bodyAt gates s at = afterTable gateAt s at
+bodyAt witnesses s at = afterTable witnessAt s at
+bodyAt jobs s at = afterTable jobAt s at
 
 -- a record from a position on, of the families that a caller takes
 unfoldable pub recordAt : List Family → List ℕ → ℕ → Reading Record

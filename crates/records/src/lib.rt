@@ -1,2 +1,3 @@
-// Records read from a slice: tables, gates, witnesses and open jobs.
+// What follows the kind byte of a record, read from a slice, and the end: tables, gates, witnesses and open jobs. A whole record is read in
+// `receiving`.
 pub mod read;

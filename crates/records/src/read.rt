@@ -1,4 +1,4 @@
-// A record read from a slice.
+// What follows a record's kind byte, read from a slice and a position, and the end.
 use cell::refusal::Status;
 use job::job::Job;
 use machine::power::top_power;
@@ -23,7 +23,7 @@ ghost use Rattle.table.specs.Table.{rowsOf};
 ghost use Rattle.cell.specs.Refusal.{refused};
 ghost use Rattle.job.specs.Calls.{noGate, noWitness};
 ghost use Rattle.records.specs.Record.{gateAt, witnessAt, openJob, countsAt, jobAt};
-ghost use Rattle.records.specs.Calls.{noJob, asRead, asBody, restBy, bodyBy, ended};
+ghost use Rattle.records.specs.Calls.{noJob, asRead, recordField, bodyBy, ended};
 
 // A record's kind and parts. What the kind does not have is all 0.
 pub struct Read {
@@ -35,7 +35,7 @@ pub struct Read {
 }
 
 // A record and the position after it. The position is 0 beside a refusal.
-pub struct Body {
+pub struct RecordField {
     pub read: Read,
     pub next: usize,
 }
@@ -85,19 +85,19 @@ fn refused(number: u8) -> Read
 }
 
 // Returns a refusal.
-fn no_body(number: u8) -> Body
-    ensures { λ r. ⌜ r ≡ asBody (refused number) ⌝ }
+fn no_body(number: u8) -> RecordField
+    ensures { λ r. ⌜ r ≡ recordField (refused number) ⌝ }
 {
-    Body {
+    RecordField {
         read: refused(number),
         next: 0,
     }
 }
 
 // Reads the weights and T of a gate. Refusals: 1, 4, 7.
-fn read_gate(bytes: &[u8], at: usize, table: Table) -> Body
+fn read_gate(bytes: &[u8], at: usize, table: Table) -> RecordField
     requires { ⌜ table .n ≤ 8 ⌝ }
-    ensures { λ r. ⌜ r ≡ asBody (gateAt table (now (bytes .entry)) at) ⌝ }
+    ensures { λ r. ⌜ r ≡ recordField (gateAt table (now (bytes .entry)) at) ⌝ }
 {
     let field = read_vector(bytes, at, table.n, true);
     let status = field.status;
@@ -106,7 +106,7 @@ fn read_gate(bytes: &[u8], at: usize, table: Table) -> Body
     }
     let mut read = bare(Kind::Gate, table);
     read.gate = vector_gate(table.n, field.v);
-    Body {
+    RecordField {
         read,
         next: field.next,
     }
@@ -121,9 +121,9 @@ fn rows_of(n: u8) -> u32
 }
 
 // Reads the counts of a witness. Refusals: 1, 4, 8.
-fn read_witness(bytes: &[u8], at: usize, table: Table) -> Body
+fn read_witness(bytes: &[u8], at: usize, table: Table) -> RecordField
     requires { ⌜ table .n ≤ 8 ⌝ }
-    ensures { λ r. ⌜ r ≡ asBody (witnessAt table (now (bytes .entry)) at) ⌝ }
+    ensures { λ r. ⌜ r ≡ recordField (witnessAt table (now (bytes .entry)) at) ⌝ }
 {
     let field = read_rows(bytes, at, rows_of(table.n), true);
     let status = field.status;
@@ -134,7 +134,7 @@ fn read_witness(bytes: &[u8], at: usize, table: Table) -> Body
     let witness = Witness { counts };
     let mut read = bare(Kind::Witness, table);
     read.witness = witness;
-    Body {
+    RecordField {
         read,
         next: field.next,
     }
@@ -158,9 +158,9 @@ fn open_job(table: Table, k: u32, v: Vector, s: Vector, counts: [u32; 256]) -> J
 }
 
 // Reads the row list of a job whose other numbers were read, and tests the job. Refusals: 1, 4, 9.
-fn read_counts(bytes: &[u8], at: usize, table: Table, k: u32, v: Vector, s: Vector) -> Body
+fn read_counts(bytes: &[u8], at: usize, table: Table, k: u32, v: Vector, s: Vector) -> RecordField
     requires { ⌜ table .n ≤ 8 ⌝ }
-    ensures { λ r. ⌜ r ≡ asBody (countsAt table k v s (now (bytes .entry)) at) ⌝ }
+    ensures { λ r. ⌜ r ≡ recordField (countsAt table k v s (now (bytes .entry)) at) ⌝ }
 {
     let field = read_rows(bytes, at, rows_of(table.n), false);
     let status = field.status;
@@ -177,16 +177,16 @@ fn read_counts(bytes: &[u8], at: usize, table: Table, k: u32, v: Vector, s: Vect
     }
     let mut read = bare(Kind::Job, table);
     read.job = job;
-    Body {
+    RecordField {
         read,
         next: field.next,
     }
 }
 
 // Reads K, v, s and the row list of an open job. Refusals: 1, 4, 9.
-fn read_job(bytes: &[u8], at: usize, table: Table) -> Body
+fn read_job(bytes: &[u8], at: usize, table: Table) -> RecordField
     requires { ⌜ table .n ≤ 8 ⌝ }
-    ensures { λ r. ⌜ r ≡ asBody (jobAt table (now (bytes .entry)) at) ⌝ }
+    ensures { λ r. ⌜ r ≡ recordField (jobAt table (now (bytes .entry)) at) ⌝ }
 {
     let k = read_number(bytes, at);
     let status = k.status;
@@ -206,42 +206,35 @@ fn read_job(bytes: &[u8], at: usize, table: Table) -> Body
     read_counts(bytes, s.next, table, k.value, v.v, s.v)
 }
 
-// Reads what follows a table, by the kind. Refusals: the kind's; 1, 4, and 7, 8 or 9 by the kind.
-fn read_rest(bytes: &[u8], at: usize, kind: Kind, table: Table) -> Body
-    requires { ⌜ table .n ≤ 8 ⌝ }
-    ensures { λ r. ⌜ r ≡ asBody (restBy kind table (now (bytes .entry)) at) ⌝ }
-{
-    match kind {
-        Kind::Table => Body {
-            read: bare(Kind::Table, table),
-            next: at,
-        },
-        Kind::Gate => read_gate(bytes, at, table),
-        Kind::Witness => read_witness(bytes, at, table),
-        Kind::Job => read_job(bytes, at, table),
-        Kind::Refused(number) => no_body(number),
-    }
-}
-
 // Reads what follows a kind that was read, at a position. Refusals: the kind's; 1, 4, 2, 3 of the table; 7, 8 or 9 by the kind.
-pub fn body_at(bytes: &[u8], at: usize, field: KindField) -> Body
-    ensures { λ r. ⌜ r ≡ asBody (bodyBy (field .kind) (now (bytes .entry)) at) ⌝ }
+pub fn body_at(bytes: &[u8], at: usize, field: KindField) -> RecordField
+    ensures { λ r. ⌜ r ≡ recordField (bodyBy (field .kind) (now (bytes .entry)) at) ⌝ }
 {
     let kind = field.kind;
     if let Kind::Refused(number) = kind {
         return no_body(number);
     }
+    // every kind begins with a table: it is read once, before the kind is looked at again
     let read = read_table(bytes, at);
     let status = read.status;
     if let Status::Refused(number) = status {
         return no_body(number);
     }
     let table = read.table;
-    read_rest(bytes, read.next, kind, table)
+    match kind {
+        Kind::Table => RecordField {
+            read: bare(Kind::Table, table),
+            next: read.next,
+        },
+        Kind::Gate => read_gate(bytes, read.next, table),
+        Kind::Witness => read_witness(bytes, read.next, table),
+        Kind::Job => read_job(bytes, read.next, table),
+        Kind::Refused(number) => no_body(number),
+    }
 }
 
 // Returns the record that was read, if a position is at the end. Refusals: the record's; 6.
-pub fn end_at(bytes: &[u8], at: usize, body: Body) -> Read
+pub fn end_at(bytes: &[u8], at: usize, body: RecordField) -> Read
     ensures { λ r. ⌜ r ≡ ended (body .read) (now (bytes .entry)) at ⌝ }
 {
     let read = body.read;

@@ -1,5 +1,5 @@
 // A record written into a buffer, all of whose bytes were the same before.
-use crate::sample;
+use crate::record;
 use records::read::Read;
 use testing::parts::first_bytes;
 use testing::parts::least;
@@ -37,7 +37,7 @@ fn number_of(written: Written) -> u8 {
 // Writes a record into the first bytes of a buffer, or into all where it has no more.
 fn write_part(record: Read, out: &mut [u8], room: usize) -> Written {
     let end = least(room, out.len());
-    sample::write(record, &mut out[0..end])
+    record::write(record, &mut out[0..end])
 }
 
 // Writes a record into the first bytes of a blank buffer.

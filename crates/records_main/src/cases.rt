@@ -3,7 +3,7 @@ use crate::buffer;
 use crate::buffer::Buffer;
 use crate::buffer::ROOM;
 use crate::buffer::is_right;
-use crate::sample;
+use crate::record;
 use crate::spoiled;
 use papers::show;
 use papers::text::digit;
@@ -48,7 +48,7 @@ fn show_bytes(line: &[u8], bytes: &[u8]) {
 // record into buffers of each length.
 fn show_whole(record: Read, bytes: &[u8]) {
     show::word(b" read");
-    show::same(sample::same(read(bytes), record));
+    show::same(record::same(read(bytes), record));
     tally::print(b" from", spoiled::tails(bytes));
     tally::print(b" room", spoiled::rooms(record, bytes));
 }
@@ -62,7 +62,7 @@ fn show_spoiled(bytes: [u8; 1300], length: usize) {
 
 // Prints both lines of a record.
 pub fn record(line: &[u8]) {
-    let record = sample::of_line(line);
+    let record = record::of_line(line);
     let written = buffer::written(record, ROOM);
     let bytes = written.bytes;
     let length = written.length;
@@ -86,7 +86,7 @@ fn show_reading(string: &[u8; 64], length: usize) {
     let answer = read(bytes);
     let kind = answer.kind;
     show::word(b":");
-    show::number(sample::number_of(kind) as u64);
+    show::number(record::number_of(kind) as u64);
     end_line(spoiled::is_right_reading(answer, bytes));
 }
 
@@ -112,7 +112,7 @@ fn are_right(full: Buffer, empty: Buffer) -> bool {
 
 // Prints a line, and the numbers that writing its record into a long buffer and into none gives.
 pub fn refusal(line: &[u8]) {
-    let record = sample::of_line(line);
+    let record = record::of_line(line);
     let full = buffer::written(record, ROOM);
     let empty = buffer::written(record, 0);
     show::word(line);

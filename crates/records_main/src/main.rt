@@ -4,7 +4,7 @@
 // line that starts with # says what those after it are for. Prints two lines for each record of the set, and one for each of the others.
 mod buffer;
 mod cases;
-mod sample;
+mod record;
 mod spoiled;
 
 use libc::STDIN_FILENO;

@@ -2,7 +2,7 @@
 use crate::buffer;
 use crate::buffer::ROOM;
 use crate::buffer::is_right;
-use crate::sample;
+use crate::record;
 use receiving::record::read;
 use records::read::Read;
 use testing::parts::first_bytes;
@@ -16,12 +16,12 @@ ghost use Prim.Native.Nat.{_≤_, _<_};
 // Whether what reading some bytes gave is right: the record is written as the same bytes, or has no part beside a refusal.
 pub fn is_right_reading(answer: Read, bytes: &[u8]) -> bool {
     let kind = answer.kind;
-    let number = sample::number_of(kind);
+    let number = record::number_of(kind);
     if number == 0 {
         let written = buffer::written(answer, ROOM);
         written.number == 0 && is_right(written, bytes)
     } else {
-        sample::same(answer, sample::bare(Kind::Refused(number)))
+        record::same(answer, record::bare(Kind::Refused(number)))
     }
 }
 
@@ -30,7 +30,7 @@ fn counted(tally: Tally, answer: Read, bytes: &[u8]) -> Tally {
     let kind = answer.kind;
     tally::count(
         tally,
-        sample::number_of(kind),
+        record::number_of(kind),
         is_right_reading(answer, bytes),
     )
 }

@@ -12,7 +12,9 @@ use Rattle.cell.proofs.RefusalLaws.{rule-broken, rule-kept}
 use Rattle.codec.specs.Written.{writtenAt}
 use Rattle.cell.specs.declared.refusal.Answer.{Answer}
 use Rattle.cell.specs.Answers.{answer}
-use Rattle.results.specs.Result.{asResult, said, fitted, Returned, saidBy}
+use Rattle.writers.specs.declared.write.Written.the-variants as Written′
+use Rattle.writers.specs.Calls.{fitted, written}
+use Rattle.results.specs.Result.{asResult, said, measured, Returned, saidBy}
 
 -- ---- a call that writes
 
@@ -35,6 +37,11 @@ pub returned-bytes : (old bytes : List ℕ) {n : ℕ} {new : List ℕ} → lengt
     → Returned (fitted (length old) bytes) old (pos n) new
 returned-bytes old bytes long h e =
     returned-as old (rule-kept 12 [] (answered bytes) (le-ltb (length old) (length bytes) (omega arith))) (ap pos (sym long), e)
+
+-- the length that a writer of records answers is what the call returns
+pub measured-length : (a : Answered (List ℕ)) {n : ℕ} → written a ≡ Written′.Bytes n → answered n ≡ measured a
+measured-length (answered bytes) e = cc
+measured-length (refused m) e = let z : _≡_ {A = ℕ} 0 1 = cc in absurd (omega arith)
 
 -- ---- a call that answers
 

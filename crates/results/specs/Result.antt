@@ -7,13 +7,13 @@ use Prim.Native.Nat.{ℕ}
 use lib.Dec.{eqb}
 use lib.ListN.{length}
 use lib.IntN.{ℤ, pos, negℤ}
-use Rattle.cell.specs.Refusal.{Answered, answered, refused, andThen, checked}
+use Rattle.cell.specs.Refusal.{Answered, answered, refused, andThen}
 use Rattle.cell.specs.declared.refusal.Answer.{Answer}
 use Rattle.cell.specs.declared.refusal.Answer.the-variants as Answer′
 use Rattle.types.specs.declared.kind.Kind.{Kind}
 use Rattle.codec.specs.Kind.{Family, kindOf}
 use Rattle.reading.specs.Fields.{familyOf}
-use Rattle.writers.specs.Calls.{tooShort, lent}
+use Rattle.writers.specs.Calls.{lent}
 
 -- the number that is returned: the answer's, or the negative of the refusal's
 abbrev pub asResult : Answered ℕ → ℤ
@@ -33,10 +33,6 @@ said a = andThen a (λ b. answered (yesOrNo b))
 abbrev pub measured : Answered (List ℕ) → Answered ℕ
 measured a = andThen a (λ bytes. answered (length bytes))
 
--- bytes to write, in a buffer of so many: 12
-abbrev pub fitted : ℕ → List ℕ → Answered (List ℕ)
-fitted room bytes = checked (tooShort room bytes ∷ []) (answered bytes)
-
 -- a call that writes has come to this: it returns the length of its bytes, which stand in the lent buffer, the rest as it was; or it returns
 -- its refusal, and the buffer is as it was
 abbrev pub Returned : Answered (List ℕ) → (old : List ℕ) → ℤ → (new : List ℕ) → Type 0
@@ -49,21 +45,21 @@ abbrev pub otherKind : ℕ
 otherKind = 100
 
 -- what a call says of the records of a family that it takes
-pub record Row (A : Type 0) : Type 0 where
+pub record Case (A : Type 0) : Type 0 where
   pub of : Family
   pub says : Answered A
 
-abbrev pub row : {A : Type 0} → Family → Answered A → Row A
-row f a = record { of = f; says = a }
+abbrev pub case : {A : Type 0} → Family → Answered A → Case A
+case f a = record { of = f; says = a }
 
--- what it says of a family: its row, and `otherKind` if it has none
-unfoldable pub rowOf : {A : Type 0} → List (Row A) → Family → Answered A
-rowOf [] f = refused otherKind
-rowOf (r ∷ rs) f = cond (eqb (kindOf f) (kindOf (r .of))) (r .says) (rowOf rs f)
+-- what it says of a family: its case, and `otherKind` if it has none
+unfoldable pub caseOf : {A : Type 0} → List (Case A) → Family → Answered A
+caseOf [] f = refused otherKind
+caseOf (c ∷ cs) f = cond (eqb (kindOf f) (kindOf (c .of))) (c .says) (caseOf cs f)
 
 -- what it says of the code's kind: what reading refused is passed on
-abbrev pub saidOf : {A : Type 0} → Kind → List (Row A) → Answered A
-saidOf kind rows = andThen (familyOf kind) (rowOf rows)
+abbrev pub saidOf : {A : Type 0} → Kind → List (Case A) → Answered A
+saidOf kind cases = andThen (familyOf kind) (caseOf cases)
 
 -- ---- the code's enums
 

@@ -25,7 +25,7 @@ use Rattle.function.specs.Gate.{distance}
 use Rattle.table.proofs.TableLaws.{level-past}
 use Rattle.types.specs.declared.vector.Vector.{Vector}
 use Rattle.function.specs.Failing.{margin, fails, failing}
-use Rattle.machine.proofs.RangeLaws.{in-range-correct, in-range-past}
+use Rattle.function.proofs.RangeLaws.{in-range-correct, in-range-past}
 use Rattle.function.proofs.FailingLaws.{failing-at, none-failing}
 use Rattle.lanes.specs.Blocks.{blocksOf, laneRows, laneValue}
 use Rattle.lanes.specs.Sums.{vectorSums}

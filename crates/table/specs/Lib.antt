@@ -2,7 +2,7 @@
 pub mod Table
 -- the ranges of a gate's numbers
 pub mod Gate
--- the ranges of a witness's counts, and whether two arrays have the same
+-- the ranges of a witness's counts
 pub mod Witness
 -- the kinds of inputs
 pub mod Inputs

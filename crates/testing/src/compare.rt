@@ -1,25 +1,15 @@
 // Whether tables, gates and jobs are the same in every field.
+use crate::stage::letter;
 use job::job::Job;
 use machine::vector::same_vector;
 use table::witness::same_counts;
 use types::gate::Gate;
-use types::stage::Stage;
 use types::state::State;
 use types::table::Table;
 use types::vector::Vector;
 ghost use mathlib.Core.Path.{_≡_};
 ghost use mathlib.Core.Logic.{_↔_};
 ghost use mathlib.Core.Bool.{true};
-
-// Returns the letter of a stage.
-pub fn letter(stage: Stage) -> u8 {
-    match stage {
-        Stage::Open => b'O',
-        Stage::Found => b'F',
-        Stage::Looped => b'L',
-        Stage::Binate => b'B',
-    }
-}
 
 // Whether the bytes are the same.
 fn same_bytes(x: [u8; 32], y: [u8; 32]) -> bool

@@ -1,12 +1,12 @@
 // Jobs from lines of text. The words of a line are a name, n, the table's bytes in base sixteen, the stage's letter, a row, a budget,
 // K and M, and then three for each number that is not 0: `v` or `s`, place and component, where place 0 is b, or `c`, row and count.
 // A capital sets every component or count, whatever its place.
+use crate::stage;
 use job::job::Job;
 use papers::line::table_of;
 use papers::text::digit;
 use papers::text::first;
 use papers::text::word;
-use types::stage::Stage;
 use types::state::State;
 use types::vector::Vector;
 
@@ -35,20 +35,6 @@ fn signed(word: &[u8]) -> i32 {
 fn negative(number: u32) -> i32 {
     let below = (number as u64 + 2_147_483_647) % 2_147_483_648;
     -1 - below as i32
-}
-
-// Returns the stage of a letter.
-fn stage(letter: u8) -> Stage {
-    if letter == b'F' {
-        return Stage::Found;
-    }
-    if letter == b'L' {
-        return Stage::Looped;
-    }
-    if letter == b'B' {
-        return Stage::Binate;
-    }
-    Stage::Open
 }
 
 // Returns the vector with one component set.
@@ -92,7 +78,7 @@ fn with_number(state: State, letter: u8, at: usize, value: &[u8]) -> State {
 
 // Returns the state of a line with v, s and all counts 0.
 fn plain_state(line: &[u8]) -> State {
-    let stage = stage(first(word(line, 3)));
+    let stage = stage::of(first(word(line, 3)));
     State {
         k: number(word(line, 6)),
         v: full(0),

@@ -27,7 +27,7 @@ use Rattle.numbers.specs.Power.{highest}
 use Rattle.job.specs.Sound.{markFor, Sound}
 use Rattle.job.specs.Calls.{gateOf, witnessOf}
 use Rattle.numbers.proofs.PowerLaws.{highest-le}
-use Rattle.machine.proofs.RangeLaws.{in-range-correct, in-range-wider}
+use Rattle.function.proofs.RangeLaws.{in-range-correct, in-range-wider}
 use Rattle.job.proofs.SoundLaws.{sound-in, sound-current, sound-count, sound-past}
 use Rattle.types.specs.declared.state.State.{State}
 use Rattle.table.specs.Table.{value, functionOf}

@@ -24,8 +24,8 @@ use Rattle.records.specs.Calls.{asRead}
 use Rattle.writers.specs.Calls.{tooShort, recordRules}
 use Rattle.writers.proofs.WriteBack.{write-back}
 use Rattle.types.proofs.kind.Kind.{the-type}
-use Rattle.results.specs.Result.{numberFor, row, rowOf, saidOf}
-use Rattle.threshold.specs.Interface.{tableIn, jobIn, tableRead, jobRead}
+use Rattle.results.specs.Result.{numberFor, case, caseOf, saidOf}
+use Rattle.threshold.specs.Interface.{tableTaken, jobTaken, tableRead, jobRead}
 
 -- ---- the record of an answer
 
@@ -37,8 +37,8 @@ same-answer : {A : Type 0} {a b : A} → answered a ≡ answered b → a ≡ b
 same-answer e = cc
 
 -- a call on a table is given that of a kind 1 record
-pub is-table : (a : Answered Record) (t : Table) → tableIn (asRead a) ≡ answered t → a ≡ answered (ofTable t)
-unfolding rowOf
+pub is-table : (a : Answered Record) (t : Table) → tableTaken (asRead a) ≡ answered t → a ≡ answered (ofTable t)
+unfolding caseOf
 is-table (answered (ofTable u)) t e = ap (λ (t : Table). answered (ofTable t)) (same-answer e)
 is-table (answered (ofGate u g)) t e = no-answer e
 is-table (answered (ofWitness u w)) t e = no-answer e
@@ -46,8 +46,8 @@ is-table (answered (ofJob j)) t e = no-answer e
 is-table (refused n) t e = no-answer e
 
 -- and a call on a job that of a kind 4 record
-pub is-job : (a : Answered Record) (j : Job) → jobIn (asRead a) ≡ answered j → a ≡ answered (ofJob j)
-unfolding rowOf
+pub is-job : (a : Answered Record) (j : Job) → jobTaken (asRead a) ≡ answered j → a ≡ answered (ofJob j)
+unfolding caseOf
 is-job (answered (ofTable t)) j e = no-answer e
 is-job (answered (ofGate t g)) j e = no-answer e
 is-job (answered (ofWitness t w)) j e = no-answer e
@@ -61,10 +61,10 @@ module _ (s : List ℕ) {r : Read} (says : r ≡ asRead (readRecord s)) where
   -- on another kind it is refused
   pub no-table : OneOf (1 ∷ 2 ∷ 3 ∷ 4 ∷ []) (tagOf the-type (r .kind)) → {A : Type 0} (later : Table → Answered A)
       → refused (numberFor (r .kind)) ≡ andThen (tableRead s) later
-  unfolding rowOf
-  no-table other later = ap (λ (t : Answered Table). andThen t later) (by (r .kind) other ∙ ap tableIn says)
+  unfolding caseOf
+  no-table other later = ap (λ (t : Answered Table). andThen t later) (by (r .kind) other ∙ ap tableTaken says)
     where
-      by : (k : Kind) → OneOf (1 ∷ 2 ∷ 3 ∷ 4 ∷ []) (tagOf the-type k) → refused (numberFor k) ≡ saidOf k (row tables (answered (r .table)) ∷ [])
+      by : (k : Kind) → OneOf (1 ∷ 2 ∷ 3 ∷ 4 ∷ []) (tagOf the-type k) → refused (numberFor k) ≡ saidOf k (case tables (answered (r .table)) ∷ [])
       by Kind′.Table o = absurd (⊎-elim (λ e. omega arith) (⊎-elim (λ e. omega arith) (⊎-elim (λ e. omega arith) (λ e. omega arith))) o)
       by Kind′.Gate o = refl
       by Kind′.Witness o = refl
@@ -73,8 +73,8 @@ module _ (s : List ℕ) {r : Read} (says : r ≡ asRead (readRecord s)) where
 
   -- else it has the table
   has-table : r .kind ≡ Kind′.Table → answered (r .table) ≡ tableRead s
-  unfolding rowOf
-  has-table e = ap (λ (k : Kind). saidOf k (row tables (answered (r .table)) ∷ [])) (sym e) ∙ ap tableIn says
+  unfolding caseOf
+  has-table e = ap (λ (k : Kind). saidOf k (case tables (answered (r .table)) ∷ [])) (sym e) ∙ ap tableTaken says
 
   pub with-table : r .kind ≡ Kind′.Table → {A : Type 0} (later : Table → Answered A) → later (r .table) ≡ andThen (tableRead s) later
   with-table e later = ap (λ (t : Answered Table). andThen t later) (has-table e)
@@ -91,10 +91,10 @@ module _ (s : List ℕ) {r : Read} (says : r ≡ asRead (readRecord s)) where
   -- on another kind it is refused
   pub no-job : OneOf (0 ∷ 1 ∷ 2 ∷ 4 ∷ []) (tagOf the-type (r .kind)) → {A : Type 0} (later : Job → Answered A)
       → refused (numberFor (r .kind)) ≡ andThen (jobRead s) later
-  unfolding rowOf
-  no-job other later = ap (λ (j : Answered Job). andThen j later) (by (r .kind) other ∙ ap jobIn says)
+  unfolding caseOf
+  no-job other later = ap (λ (j : Answered Job). andThen j later) (by (r .kind) other ∙ ap jobTaken says)
     where
-      by : (k : Kind) → OneOf (0 ∷ 1 ∷ 2 ∷ 4 ∷ []) (tagOf the-type k) → refused (numberFor k) ≡ saidOf k (row jobs (answered (r .job)) ∷ [])
+      by : (k : Kind) → OneOf (0 ∷ 1 ∷ 2 ∷ 4 ∷ []) (tagOf the-type k) → refused (numberFor k) ≡ saidOf k (case jobs (answered (r .job)) ∷ [])
       by Kind′.Table o = refl
       by Kind′.Gate o = refl
       by Kind′.Witness o = refl
@@ -103,8 +103,8 @@ module _ (s : List ℕ) {r : Read} (says : r ≡ asRead (readRecord s)) where
 
   -- else it is what comes after the job
   pub with-job : r .kind ≡ Kind′.Job → {A : Type 0} (later : Job → Answered A) → later (r .job) ≡ andThen (jobRead s) later
-  unfolding rowOf
+  unfolding caseOf
   with-job e later = ap (λ (j : Answered Job). andThen j later) has-job
     where
       has-job : answered (r .job) ≡ jobRead s
-      has-job = ap (λ (k : Kind). saidOf k (row jobs (answered (r .job)) ∷ [])) (sym e) ∙ ap jobIn says
+      has-job = ap (λ (k : Kind). saidOf k (case jobs (answered (r .job)) ∷ [])) (sym e) ∙ ap jobTaken says

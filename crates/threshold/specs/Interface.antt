@@ -12,7 +12,8 @@ use Rattle.codec.specs.Kind.{tables, jobs}
 use Rattle.records.specs.declared.read.Read.{Read}
 use Rattle.records.specs.Record.{readRecord}
 use Rattle.records.specs.Calls.{asRead}
-use Rattle.results.specs.Result.{fitted, row, saidOf}
+use Rattle.writers.specs.Calls.{fitted}
+use Rattle.results.specs.Result.{case, saidOf}
 use Rattle.certificates.specs.Certificate.{checkIn, kindIn, valueIn}
 use Rattle.inputs.specs.Inputs.{inputBytes, chowBytes}
 use Rattle.outcome.specs.Outcome.{Handed, decidedBack, carriedBack}
@@ -24,19 +25,19 @@ abbrev pub partsOf : List ℕ → Read
 partsOf s = asRead (readRecord s)
 
 -- the table of a record of kind 1
-abbrev pub tableIn : Read → Answered Table
-tableIn r = saidOf (r .kind) (row tables (answered (r .table)) ∷ [])
+abbrev pub tableTaken : Read → Answered Table
+tableTaken r = saidOf (r .kind) (case tables (answered (r .table)) ∷ [])
 
 -- the open job of a record of kind 4
-abbrev pub jobIn : Read → Answered Job
-jobIn r = saidOf (r .kind) (row jobs (answered (r .job)) ∷ [])
+abbrev pub jobTaken : Read → Answered Job
+jobTaken r = saidOf (r .kind) (case jobs (answered (r .job)) ∷ [])
 
 -- what bytes mean to a call on a table, and to a call on a job
 abbrev pub tableRead : List ℕ → Answered Table
-tableRead s = tableIn (partsOf s)
+tableRead s = tableTaken (partsOf s)
 
 abbrev pub jobRead : List ℕ → Answered Job
-jobRead s = jobIn (partsOf s)
+jobRead s = jobTaken (partsOf s)
 
 -- ---- decide and carry on
 

@@ -6,7 +6,8 @@ use results::result::not_taken;
 use types::kind::Kind;
 ghost use lib.ListN.{length};
 ghost use Rattle.cell.specs.Refusal.{andThen};
-ghost use Rattle.results.specs.Result.{fitted, Returned};
+ghost use Rattle.writers.specs.Calls.{fitted};
+ghost use Rattle.results.specs.Result.{Returned};
 ghost use Rattle.inputs.specs.Inputs.{askedBytes};
 ghost use Rattle.threshold.specs.Interface.{tableRead, kinds, chow};
 

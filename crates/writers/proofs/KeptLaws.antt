@@ -12,7 +12,11 @@ use Rattle.job.proofs.MachineLaws.{open-stage}
 use Rattle.job.proofs.SoundLaws.{is-sound-correct}
 use Rattle.records.specs.Record.{Record, ofTable, ofGate, ofWitness, ofJob}
 use Rattle.bodies.proofs.RecordParts.{tableIn}
-use Rattle.writers.specs.Calls.{hasEnded, recordRules, Kept}
+use Rattle.writers.specs.Calls.{hasEnded, recordRules}
+
+-- a record keeps its rules
+abbrev pub Kept : Record → Type 0
+Kept x = NoneBroken (recordRules x [])
 
 -- its table has at most eight inputs
 pub kept-few : (x : Record) → Kept x → tableIn x .n ≤ 8

@@ -1,4 +1,4 @@
--- Reading what was written gives the same record, kinds 1 to 4. Assumes nothing.
+-- Reading what was written gives the same record: each family's body, wherever it stands, and the whole. Assumes nothing.
 use mathlib.Core.Path.{_≡_, refl, sym, _∙_, ap, subst}
 use mathlib.Core.Bool.{Bool, true, false, not}
 use mathlib.Core.List.{List, [], _∷_, _++_}
@@ -9,11 +9,12 @@ use borrow.Author.Tests.{le-ltb}
 use Rattle.numbers.proofs.TestLaws.{no-true}
 use Rattle.types.specs.declared.table.Table.{Table}
 use Rattle.types.specs.declared.gate.Gate.{Gate}
+use Rattle.types.specs.declared.witness.Witness.{Witness}
 use Rattle.table.specs.Table.{rows}
 use Rattle.table.specs.Gate.{weightLimit, inRange}
 use Rattle.table.proofs.TableLaws.{rows-le}
 use Rattle.cell.specs.Refusal.{Rule, rule, Answered, answered, checked, NoneBroken}
-use Rattle.cell.specs.Calls.{tableRules}
+use Rattle.cell.specs.Calls.{tableRules, gateRules, witnessRules}
 use Rattle.cell.proofs.RefusalLaws.{answered-none-broken}
 use Rattle.cell.proofs.TableChecked.{kept-inputs, table-kept}
 use Rattle.types.specs.declared.vector.Vector.{Vector}
@@ -30,15 +31,16 @@ use Rattle.codec.specs.VectorField.{vectorBytes, vectorAt}
 use Rattle.codec.specs.RowList.{RowList, rowListBytes}
 use Rattle.codec.specs.Kind.{Family, kindOf, everyFamily}
 use Rattle.codec.specs.TableField.{tableBytes}
-use Rattle.codec.proofs.StandsLaws.{Stands, stands-front, stands-back, stands-head, stands-self}
+use Rattle.codec.proofs.StandsLaws.{Stands, stands-front, stands-back, stands-head, stands-self, after-both}
 use Rattle.codec.proofs.NumberLaws.{number-read}
 use Rattle.codec.proofs.VectorFieldLaws.{vector-read}
 use Rattle.codec.proofs.RowListRead.{rows-read}
 use Rattle.codec.proofs.KindLaws.{every-taken, kind-read}
 use Rattle.codec.proofs.TableFieldLaws.{table-read}
-use Rattle.records.specs.Record.{Record, ofTable, ofGate, ofWitness, ofJob, family, gateVector, vectorGate, jobBytes, recordBytes, openJob, unsoundJob, countsAt, jobAt, restAt, bodyAt, bytesLeft, recordAt, singleAt, readRecord}
+use Rattle.records.specs.Record.{Record, ofTable, ofGate, ofWitness, ofJob, family, gateVector, vectorGate, jobBytes, bodyBytes, recordBytes, gateAt, witnessAt, openJob, unsoundJob, countsAt, jobAt, afterTable, bodyAt, bytesLeft, recordAt, singleAt, readRecord}
 use Rattle.writers.specs.Calls.{tooShort, recordRules, writeRecord}
-use Rattle.bodies.proofs.RecordParts.{Held, tableIn, restBytes, record-parts, body-is, same-inputs, gate-in-limits, witness-fits, savable}
+use Rattle.bodies.proofs.RecordParts.{Held, kind-and-body, same-inputs, gate-in-limits, witness-fits, savable}
+use Rattle.bodies.proofs.BodyLaws.{job-bytes, job-count}
 use Rattle.writers.proofs.KeptLaws.{kept-open}
 
 -- ---- read after write
@@ -70,47 +72,60 @@ module _ (j : Job) (few : j .table .n ≤ 8) (sound : Sound j) (opened : j .stat
       let current = vectorBytes n (j .state .v) in
       let copied = vectorBytes n (j .state .s) in
       let counts = rowListBytes (j .state .counts) in
-      let after-number = stands-back s at number (current ++ (copied ++ counts)) stands in
+      let fields = subst (Stands s at) (job-bytes j) stands in
+      let after-number = stands-back s at number (current ++ (copied ++ counts)) fields in
       let after-current = stands-back s (at + length number) current (copied ++ counts) after-number in
       let after-copied = stands-back s (at + length number + length current) copied counts after-current in
-      let first = number-read s at (j .state .k) (keeps .few) (stands-front s at number (current ++ (copied ++ counts)) stands) in
+      let first = number-read s at (j .state .k) (keeps .few) (stands-front s at number (current ++ (copied ++ counts)) fields) in
       let second = vector-read false n (j .state .v) s (at + length number) few (sound .shaped .weights) (keeps .current) (stands-front s (at + length number) current (copied ++ counts) after-number) in
       let third = vector-read false n (j .state .s) s (at + length number + length current) few (sound .shaped .copied) (keeps .copied) (stands-front s (at + length number + length current) copied counts after-current) in
-      let total : length (jobBytes j) ≡ length number + (length current + (length copied + length counts)) =
-      length-append number (current ++ (copied ++ counts)) ∙ ap (λ (m : ℕ). length number + m) (length-append current (copied ++ counts) ∙ ap (λ (m : ℕ). length current + m) (length-append copied counts)) in
       ap (λ (r : Reading ℕ). onward r (λ k p. onward (vectorAt false n s p) (λ v q. onward (vectorAt false n s q) (λ w e. countsAt (j .table) k v w s e)))) first
       ∙ ap (λ (r : Reading Vector). onward r (λ v q. onward (vectorAt false n s q) (λ w e. countsAt (j .table) (j .state .k) v w s e))) second
       ∙ ap (λ (r : Reading Vector). onward r (λ w e. countsAt (j .table) (j .state .k) (j .state .v) w s e)) third
       ∙ counts-read (at + length number + length current + length copied) after-copied
-      ∙ ap (λ (next : ℕ). answered (field (ofJob j) next)) (omega (arith, total))
+      ∙ ap (λ (next : ℕ). answered (field (ofJob j) next)) (omega (arith, job-count j))
 
--- what follows the table, read where it stands
-rest-read : (x : Record) (others : List Rule) → Held x → NoneBroken (recordRules x others) → (s : List ℕ) (at : ℕ) → Stands s at (restBytes x)
-    → restAt (family x) (tableIn x) s at ≡ answered (field x (at + length (restBytes x)))
-rest-read (ofTable t) others held kept s at stands = ap (λ (next : ℕ). answered (field (ofTable t) next)) (omega arith)
-rest-read (ofGate t g) others (long, eight) kept s at stands =
+-- the numbers of a gate, and the counts of a witness, read where they stand
+gate-read : (t : Table) (g : Gate) {others : List Rule} → length (g .weights) ≡ 8 → NoneBroken (gateRules t g others) → (s : List ℕ) (at : ℕ)
+    → Stands s at (vectorBytes (t .n) (gateVector g)) → gateAt t s at ≡ answered (field (ofGate t g) (at + length (vectorBytes (t .n) (gateVector g))))
+gate-read t g eight kept s at stands =
     let same = same-inputs t g kept in
     let range : inRange weightLimit (t .n) (g .weights) (g .threshold) ≡ true =
     subst (λ (n : ℕ). inRange weightLimit n (g .weights) (g .threshold) ≡ true) (same .0) (gate-in-limits t g kept) in
     ap (λ (r : Reading Vector). onward r (λ v next. answered (field (ofGate t (vectorGate (t .n) v)) next))) (vector-read true (t .n) (gateVector g) s at (kept-inputs t (same .1)) eight range stands)
     ∙ ap (λ (h : Gate). answered (field (ofGate t h) (at + length (vectorBytes (t .n) (gateVector g))))) (gate-back (t .n) g (same .0))
-rest-read (ofWitness t w) others (long, full) kept s at stands =
+
+witness-read : (t : Table) (w : Witness) {others : List Rule} → length (w .counts) ≡ 256 → NoneBroken (witnessRules t w others) → (s : List ℕ) (at : ℕ)
+    → Stands s at (rowListBytes (w .counts)) → witnessAt t s at ≡ answered (field (ofWitness t w) (at + length (rowListBytes (w .counts))))
+witness-read t w full kept s at stands =
     let fit = witness-fits t w kept in
     ap (λ (r : Reading RowList). onward r (λ list next. answered (field (ofWitness t (record { counts = list .counts })) next)))
     (rows-read true (rows t) (w .counts) s at (rows-le (kept-inputs t kept)) full (fit .limit) (fit .past) (λ e. fit .some) stands)
-rest-read (ofJob j) others held kept s at stands = job-read j (kept-inputs (j .table) kept) (kept-sound j kept) (kept-open j others kept) s at stands
 
-table-taken : (x : Record) (others : List Rule) → NoneBroken (recordRules x others) → NoneBroken (tableRules (tableIn x) [])
-table-taken (ofTable t) others kept = table-kept t kept
-table-taken (ofGate t g) others kept = table-kept t (same-inputs t g kept .1)
-table-taken (ofWitness t w) others kept = table-kept t kept
-table-taken (ofJob j) others kept = table-kept (j .table) kept
+-- a table and what follows it, read where they stand
+after-table : (rest : Table → List ℕ → ℕ → Reading Record) (x : Record) (t : Table) (w : List ℕ) → NoneBroken (tableRules t []) → length (t .bytes) ≡ 32
+    → (s : List ℕ) (at : ℕ) → at ≤ length s → Stands s at (tableBytes t ++ w)
+    → (Stands s (at + length (tableBytes t)) w → rest t s (at + length (tableBytes t)) ≡ answered (field x (at + length (tableBytes t) + length w)))
+    → afterTable rest s at ≡ answered (field x (at + length (tableBytes t ++ w)))
+after-table rest x t w kept long s at inside stands later =
+    let table = tableBytes t in
+    ap (λ (r : Reading Table). onward r (λ u p. rest u s p)) (table-read t s at kept long inside (stands-front s at table w stands))
+    ∙ later (stands-back s at table w stands)
+    ∙ ap (λ (next : ℕ). answered (field x next)) (after-both at table w)
 
-table-held : (x : Record) → Held x → length (tableIn x .bytes) ≡ 32
-table-held (ofTable t) held = held
-table-held (ofGate t g) held = held .0
-table-held (ofWitness t w) held = held .0
-table-held (ofJob j) held = held
+-- a body is read as its record, wherever it stands, by the family
+pub body-read : (x : Record) (others : List Rule) → Held x → NoneBroken (recordRules x others) → (s : List ℕ) (at : ℕ) → at ≤ length s
+    → Stands s at (bodyBytes x) → bodyAt (family x) s at ≡ answered (field x (at + length (bodyBytes x)))
+unfolding bodyBytes bodyAt
+body-read (ofTable t) others long kept s at inside stands =
+    ap (λ (r : Reading Table). onward r (λ u p. answered (field (ofTable u) p))) (table-read t s at (table-kept t kept) long inside stands)
+body-read (ofGate t g) others (long, eight) kept s at inside stands =
+    after-table gateAt (ofGate t g) t (vectorBytes (t .n) (gateVector g)) (table-kept t (same-inputs t g kept .1)) long s at inside stands (gate-read t g eight kept s (at + length (tableBytes t)))
+body-read (ofWitness t w) others (long, full) kept s at inside stands =
+    after-table witnessAt (ofWitness t w) t (rowListBytes (w .counts)) (table-kept t kept) long s at inside stands (witness-read t w full kept s (at + length (tableBytes t)))
+body-read (ofJob j) others long kept s at inside stands =
+    let t = j .table in
+    after-table jobAt (ofJob j) t (jobBytes j) (table-kept t kept) long s at inside stands (job-read j (kept-inputs t kept) (kept-sound j kept) (kept-open j others kept) s (at + length (tableBytes t)))
 
 -- a record's bytes, alone, are read as the record
 record-read : (x : Record) (others : List Rule) → Held x → NoneBroken (recordRules x others) → readRecord (recordBytes x) ≡ answered x
@@ -118,20 +133,16 @@ unfolding recordAt singleAt
 record-read x others held kept =
     let s = recordBytes x in
     let f = family x in
-    let t = tableIn x in
     let kind = kindOf f ∷ [] in
-    let table = tableBytes t in
-    let rest = restBytes x in
-    let stands : Stands s 0 (kind ++ (table ++ rest)) = subst (Stands s 0) (record-parts x) (stands-self s) in
-    let back = stands-back s 0 kind (table ++ rest) stands in
-    let inside = stands-head s 0 (kindOf f) (table ++ rest) stands in
-    let first = kind-read everyFamily f s 0 (table ++ rest) (every-taken f) stands in
-    let second = table-read t s (0 + 1) (table-taken x others kept) (table-held x held) (omega (arith, inside .0)) (stands-front s (0 + 1) table rest back) in
-    let third = rest-read x others held kept s (0 + 1 + length table) (stands-back s (0 + 1) table rest back) in
-    let whole : length s ≡ 1 + (length table + length rest) = omega (arith, ap length (record-parts x), length-append table rest) in
+    let body = bodyBytes x in
+    let stands : Stands s 0 (kind ++ body) = subst (Stands s 0) (kind-and-body x) (stands-self s) in
+    let inside = stands-head s 0 (kindOf f) body stands in
+    let first = kind-read everyFamily f s 0 body (every-taken f) stands in
+    let second = body-read x others held kept s (0 + 1) (omega (arith, inside .0)) (stands-back s 0 kind body stands) in
+    let whole : length s ≡ 1 + length body = omega (arith, ap length (kind-and-body x)) in
     ap (λ (r : Reading Family). onward (onward r (λ g p. bodyAt g s p)) (ended s)) first
-    ∙ ap (λ (r : Reading Record). onward r (ended s)) (body-is f s (0 + 1) ∙ ap (λ (r : Reading Table). onward r (λ u p. restAt f u s p)) second ∙ third)
-    ∙ ap (λ (b : Bool). checked (rule 6 b ∷ []) (answered x)) (le-ltb (0 + 1 + length table + length rest) (length s) (omega arith))
+    ∙ ap (λ (r : Reading Record). onward r (ended s)) second
+    ∙ ap (λ (b : Bool). checked (rule 6 b ∷ []) (answered x)) (le-ltb (0 + 1 + length body) (length s) (omega arith))
   where
     ended : List ℕ → Record → ℕ → Answered Record
     ended s y next = checked (bytesLeft s next ∷ []) (answered y)

@@ -1,5 +1,5 @@
--- Writing what was read gives the same bytes, kinds 1 to 4. Assumes nothing.
-use mathlib.Core.Path.{_≡_, refl, sym, _∙_, ap, ap₂, subst}
+-- Writing what was read gives the same bytes: each family's body, wherever it stands, and the whole. Assumes nothing.
+use mathlib.Core.Path.{_≡_, refl, sym, _∙_, ap, subst}
 use mathlib.Core.Bool.{true, false, not, _&&_}
 use mathlib.Core.List.{List, [], _∷_, _++_}
 use Prim.Native.Nat.{ℕ, _+_, _≤_}
@@ -20,7 +20,7 @@ use Rattle.cell.proofs.TableChecked.{kept-inputs, all-kept}
 use Rattle.types.specs.declared.vector.Vector.{Vector}
 use Rattle.job.specs.Sound.{isSound}
 use Rattle.job.proofs.JobChecked.{job-all-kept}
-use Rattle.codec.specs.Field.{Field, field}
+use Rattle.codec.specs.Field.{Field, Reading, field}
 use Rattle.codec.specs.Number.{numberBytes, numberAt}
 use Rattle.codec.specs.VectorField.{vectorBytes, vectorAt}
 use Rattle.codec.specs.RowList.{RowList, rowListBytes, rowListAt}
@@ -32,10 +32,10 @@ use Rattle.codec.proofs.NumberLaws.{number-written}
 use Rattle.codec.proofs.VectorFieldLaws.{vector-written}
 use Rattle.codec.proofs.RowListWritten.{rows-written, strict-kept}
 use Rattle.codec.proofs.KindLaws.{KindRead, kind-written}
-use Rattle.codec.proofs.TableFieldLaws.{TableRead, table-written}
-use Rattle.records.specs.Record.{Record, ofTable, ofGate, ofWitness, ofJob, family, vectorGate, recordBytes, gateAt, witnessAt, openJob, unsoundJob, jobAt, restAt, bodyAt, recordAt, singleAt, readRecord}
+use Rattle.codec.proofs.TableFieldLaws.{table-written}
+use Rattle.records.specs.Record.{Record, ofTable, ofGate, ofWitness, ofJob, family, vectorGate, bodyBytes, recordBytes, gateAt, witnessAt, openJob, unsoundJob, jobAt, afterTable, bodyAt, recordAt, singleAt, readRecord}
 use Rattle.writers.specs.Calls.{tooShort, recordRules, writeRecord}
-use Rattle.bodies.proofs.RecordParts.{tableIn, restBytes, record-parts, body-is, fit-from}
+use Rattle.bodies.proofs.RecordParts.{tableIn, restBytes, kind-and-body, body-parts, fit-from}
 
 -- ---- write after read
 
@@ -49,13 +49,13 @@ record RestRead (f : Family) (t : Table) (s : List ℕ) (at : ℕ) (b : Field Re
   rules : (others : List Rule) → NoneBroken others → NoneBroken (recordRules (b .value) others)
 
 module _ (t : Table) (s : List ℕ) (bytes : AllBytes s) (taken : NoneBroken (tableRules t [])) where
-  table-body : (at : ℕ) (b : Field Record) → answered (field (ofTable t) at) ≡ answered b → RestRead tables t s at b
-  table-body at b e =
+  table-rest : (at : ℕ) (b : Field Record) → answered (field (ofTable t) at) ≡ answered b → RestRead tables t s at b
+  table-rest at b e =
       let same : field (ofTable t) at ≡ b = cc in
       subst (RestRead tables t s at) same (record { same-family = refl; same-table = refl; stands = stands-nil s at; next = omega arith; rules = λ others kept. all-kept t taken kept })
 
-  gate-body : (at : ℕ) (b : Field Record) → gateAt t s at ≡ answered b → RestRead gates t s at b
-  gate-body at b e =
+  gate-rest : (at : ℕ) (b : Field Record) → gateAt t s at ≡ answered b → RestRead gates t s at b
+  gate-rest at b e =
       let parts = onward-answered (vectorAt true (t .n) s at) _ b e in
       let f = parts .0 in
       let read = vector-written true (t .n) s at f (kept-inputs t taken) bytes (parts .1) in
@@ -68,9 +68,9 @@ module _ (t : Table) (s : List ℕ) (bytes : AllBytes s) (taken : NoneBroken (ta
         rules = λ others kept. also (ap not (eq-eqb (t .n) (t .n) refl)) (all-kept t taken (also (ap not (read .ranged refl)) kept));
       })
 
-  witness-body : (at : ℕ) (b : Field Record) → witnessAt t s at ≡ answered b → RestRead witnesses t s at b
+  witness-rest : (at : ℕ) (b : Field Record) → witnessAt t s at ≡ answered b → RestRead witnesses t s at b
   unfolding unfit
-  witness-body at b e =
+  witness-rest at b e =
       let parts = onward-answered (rowListAt true (rows t) s at) _ b e in
       let f = parts .0 in
       let read = rows-written true (rows t) s at f (rows-le (kept-inputs t taken)) bytes (parts .1) (strict-kept (rows t) s at f (parts .1)) in
@@ -94,9 +94,9 @@ module _ (t : Table) (s : List ℕ) (bytes : AllBytes s) (taken : NoneBroken (ta
       let current = vector-written false (t .n) s (k .next) v few bytes ev in
       let copied = vector-written false (t .n) s (v .next) w few bytes ew in
       let counts = rows-written false (rows t) s (w .next) list (rows-le few) bytes el kept in
-      let last = both-stand s (v .next) (vectorBytes (t .n) (w .value)) (rowListBytes (list .value .counts)) (copied .stands) (copied .next) (counts .stands) (counts .next) in
-      let later = both-stand s (k .next) (vectorBytes (t .n) (v .value)) (vectorBytes (t .n) (w .value) ++ rowListBytes (list .value .counts)) (current .stands) (current .next) (last .0) (last .1) in
-      let whole = both-stand s at (numberBytes (k .value)) (vectorBytes (t .n) (v .value) ++ (vectorBytes (t .n) (w .value) ++ rowListBytes (list .value .counts))) (number .stands) (number .next) (later .0) (later .1) in
+      let two = both-stand s at (numberBytes (k .value)) (vectorBytes (t .n) (v .value)) (number .stands) (number .next) (current .stands) (current .next) in
+      let three = both-stand s at (numberBytes (k .value) ++ vectorBytes (t .n) (v .value)) (vectorBytes (t .n) (w .value)) (two .0) (two .1) (copied .stands) (copied .next) in
+      let whole = both-stand s at ((numberBytes (k .value) ++ vectorBytes (t .n) (v .value)) ++ vectorBytes (t .n) (w .value)) (rowListBytes (list .value .counts)) (three .0) (three .1) (counts .stands) (counts .next) in
       record {
         same-family = refl;
         same-table = refl;
@@ -115,33 +115,52 @@ module _ (t : Table) (s : List ℕ) (bytes : AllBytes s) (taken : NoneBroken (ta
       let fine = not-false (list .value .kept && isSound j) (passed .0) in
       subst (RestRead jobs t s at) (passed .1) (job-fields at k v w list ek ev ew el (and-left (list .value .kept) (isSound j) fine) (and-right (list .value .kept) (isSound j) fine))
 
-  job-body : (at : ℕ) (b : Field Record) → jobAt t s at ≡ answered b → RestRead jobs t s at b
-  job-body at b e =
+  job-rest : (at : ℕ) (b : Field Record) → jobAt t s at ≡ answered b → RestRead jobs t s at b
+  job-rest at b e =
       let (k, ek, e₁) = onward-answered (numberAt s at) _ b e in
       let (v, ev, e₂) = onward-answered (vectorAt false (t .n) s (k .next)) _ b e₁ in
       let (w, ew, e₃) = onward-answered (vectorAt false (t .n) s (v .next)) _ b e₂ in
       let (list, el, e₄) = onward-answered (rowListAt false (rows t) s (w .next)) _ b e₃ in
       job-tested at b k v w list ek ev ew el e₄
 
-  -- by the family
-  rest-written : (f : Family) (at : ℕ) (b : Field Record) → restAt f t s at ≡ answered b → RestRead f t s at b
-  rest-written tables at b e = table-body at b e
-  rest-written gates at b e = gate-body at b e
-  rest-written witnesses at b e = witness-body at b e
-  rest-written jobs at b e = job-body at b e
+-- what reading a body says: the record is of that family, its body stands there, and it keeps a writer's rules
+pub record BodyRead (f : Family) (s : List ℕ) (at : ℕ) (b : Field Record) : Type 0 where
+  pub same-family : family (b .value) ≡ f
+  pub stands : Stands s at (bodyBytes (b .value))
+  pub next : b .next ≡ at + length (bodyBytes (b .value))
+  pub rules : (others : List Rule) → NoneBroken others → NoneBroken (recordRules (b .value) others)
+
+module _ (s : List ℕ) (bytes : AllBytes s) (at : ℕ) (b : Field Record) where
+  -- a table that was read, and what follows it
+  after-table : (f : Family) (rest : Table → List ℕ → ℕ → Reading Record) → ((t : Table) → NoneBroken (tableRules t []) → (p : ℕ) → rest t s p ≡ answered b → RestRead f t s p b)
+      → afterTable rest s at ≡ answered b → BodyRead f s at b
+  after-table f rest later e =
+      let (t, et, er) = onward-answered (tableAt s at) (λ u p. rest u s p) b e in
+      let table = table-written s at t bytes et in
+      let read = later (t .value) (table .taken) (t .next) er in
+      let own = tableBytes (t .value) in
+      let last = restBytes (b .value) in
+      let whole = both-stand s at own last (table .stands) (table .next) (read .stands) (read .next) in
+      let same : own ++ last ≡ bodyBytes (b .value) = ap (λ (u : Table). tableBytes u ++ last) (sym (read .same-table)) ∙ sym (body-parts (b .value)) in
+      record { same-family = read .same-family; stands = subst (Stands s at) same (whole .0); next = whole .1 ∙ ap (λ (l : List ℕ). at + length l) same; rules = read .rules }
+
+  -- bytes that are read as a body are the record's own, by the family
+  pub body-written : (f : Family) → bodyAt f s at ≡ answered b → BodyRead f s at b
+  unfolding bodyAt
+  body-written tables e = after-table tables (λ t s p. answered (field (ofTable t) p)) (λ t taken p. table-rest t s bytes taken p b) e
+  body-written gates e = after-table gates gateAt (λ t taken p. gate-rest t s bytes taken p b) e
+  body-written witnesses e = after-table witnesses witnessAt (λ t taken p. witness-rest t s bytes taken p b) e
+  body-written jobs e = after-table jobs jobAt (λ t taken p. job-rest t s bytes taken p b) e
 
 -- a record that was read from bytes is written as they stand
-record-written : (s : List ℕ) (x : Record) (k : Field Family) (t : Field Table) (b : Field Record) → KindRead s 0 k → TableRead s (k .next) t
-    → RestRead (k .value) (t .value) s (t .next) b → ltb (b .next) (length s) ≡ false → b .value ≡ x → s ≡ recordBytes x
-record-written s x k t b kind table rest ends e =
+record-written : (s : List ℕ) (x : Record) (k : Field Family) (b : Field Record) → KindRead s 0 k → BodyRead (k .value) s (k .next) b
+    → ltb (b .next) (length s) ≡ false → b .value ≡ x → s ≡ recordBytes x
+record-written s x k b kind body ends e =
     let first = kindOf (k .value) ∷ [] in
-    let own = tableBytes (t .value) in
-    let last = restBytes (b .value) in
-    let same : first ++ (own ++ last) ≡ recordBytes (b .value) =
-    ap₂ (λ (f : Family) (u : Table). (kindOf f ∷ []) ++ (tableBytes u ++ last)) (sym (rest .same-family)) (sym (rest .same-table)) ∙ sym (record-parts (b .value)) in
-    let body = both-stand s (k .next) own last (table .stands) (table .next) (rest .stands) (rest .next) in
-    let whole = both-stand s 0 first (own ++ last) (kind .stands) (kind .next) (body .0) (body .1) in
-    stands-whole s (first ++ (own ++ last)) (whole .0) (omega (arith, whole .1, ltb-false (b .next) (length s) ends)) ∙ same ∙ ap recordBytes e
+    let last = bodyBytes (b .value) in
+    let same : first ++ last ≡ recordBytes (b .value) = ap (λ (f : Family). (kindOf f ∷ []) ++ last) (sym (body .same-family)) ∙ sym (kind-and-body (b .value)) in
+    let whole = both-stand s 0 first last (kind .stands) (kind .next) (body .stands) (body .next) in
+    stands-whole s (first ++ last) (whole .0) (omega (arith, whole .1, ltb-false (b .next) (length s) ends)) ∙ same ∙ ap recordBytes e
 
 -- writing what was read gives the same bytes
 pub write-back : (s : List ℕ) → AllBytes s → (x : Record) → readRecord s ≡ answered x → (room : ℕ) → length s ≤ room → writeRecord x room ≡ answered s
@@ -150,11 +169,9 @@ write-back s bytes x e room h =
     let (b, eb, e₁) = onward-answered (recordAt everyFamily s 0) _ x e in
     let (k, ek, e₂) = onward-answered (kindAt everyFamily s 0) (λ f p. bodyAt f s p) b eb in
     let ended = checked-answered 6 (ltb (b .next) (length s)) (b .value) x e₁ in
-    let (t, et, er) = onward-answered (tableAt s (k .next)) (λ u p. restAt (k .value) u s p) b (sym (body-is (k .value) s (k .next)) ∙ e₂) in
     let kind = kind-written everyFamily s 0 k ek in
-    let table = table-written s (k .next) t bytes et in
-    let body = rest-written (t .value) s bytes (table .taken) (k .value) (t .next) b er in
-    let same = record-written s x k t b kind table body (ended .0) (ended .1) in
+    let body = body-written s bytes (k .next) b (k .value) e₂ in
+    let same = record-written s x k b kind body (ended .0) (ended .1) in
     let room-left : ltb room (length (recordBytes x)) ≡ false = le-ltb room (length (recordBytes x)) (omega (arith, ap length same)) in
     let kept : NoneBroken (recordRules x (tooShort room (recordBytes x) ∷ [])) =
     subst (λ (y : Record). NoneBroken (recordRules y (tooShort room (recordBytes x) ∷ []))) (ended .1) (body .rules (tooShort room (recordBytes x) ∷ []) (also room-left none)) in

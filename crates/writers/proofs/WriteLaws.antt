@@ -1,26 +1,29 @@
 -- What a call that writes a record comes to, over any record: its status, the room for 1 + the body's length, the kind byte and the body.
 -- Assumes nothing.
-use mathlib.Core.Path.{_≡_, refl, _∙_, ap}
+use mathlib.Core.Path.{_≡_, refl, _∙_, ap, subst}
+use mathlib.Core.Bool.{Bool, true, false}
 use mathlib.Core.List.{List, [], _∷_, _++_}
 use Prim.Native.Nat.{ℕ, _+_, _≤_, _<_}
 use native.Mathlib.Omega.{arith}
+use lib.Dec.{ltb}
 use lib.ListN.{length}
 use borrow.Author.Tests.{lt-ltb, le-ltb}
 use Rattle.cell.specs.Answers.{status}
 use Rattle.cell.specs.declared.refusal.Status.{Status}
 use Rattle.cell.specs.declared.refusal.Status.the-variants as Status′
-use Rattle.cell.specs.Refusal.{Rule, Answered, answered, refused, checked}
+use Rattle.cell.specs.Refusal.{Rule, Answered, answered, refused, refuseIf, checked}
 use Rattle.cell.proofs.RefusalLaws.{rule-broken, rule-kept}
 use Rattle.cell.proofs.StatusLaws.{rules-refused, rules-kept, rules-passed}
 use Rattle.codec.specs.Kind.{kindOf}
 use Rattle.codec.specs.Written.{Room, Put}
 use Rattle.codec.proofs.WrittenLaws.{written-room, written-next}
 use Rattle.records.specs.Record.{Record, ofTable, ofGate, ofWitness, ofJob, family, bodyBytes, recordBytes}
+use Rattle.writers.specs.declared.write.Written.{Written}
 use Rattle.writers.specs.declared.write.Written.the-variants as Written′
-use Rattle.writers.specs.Calls.{tooShort, recordRules, recordChecked, Kept, writeRecord, written, lent, Wrote}
+use Rattle.writers.specs.Calls.{tooShort, fitted, recordRules, recordChecked, writeRecord, written, lent, WroteBytes, Wrote}
 use Rattle.bodies.proofs.RecordParts.{kind-and-body}
 use Rattle.bodies.proofs.BodyLaws.{body-most}
-use Rattle.writers.proofs.KeptLaws.{kept-few}
+use Rattle.writers.proofs.KeptLaws.{Kept, kept-few}
 
 -- the rules of a record, then others
 rules-then : {A : Type 0} (x : Record) (others : List Rule) (next : Answered A)
@@ -30,14 +33,10 @@ rules-then (ofGate t g) others next = refl
 rules-then (ofWitness t w) others next = refl
 rules-then (ofJob j) others next = refl
 
--- what follows a record's rules: the room, and its bytes
-abbrev roomed : Record → List ℕ → Answered (List ℕ)
-roomed x old = checked (tooShort (length old) (recordBytes x) ∷ []) (answered (recordBytes x))
-
 -- the rules of a record that a call writes into the buffer `old` are kept, and the call is left to the room
 pub record Passed (x : Record) (old : List ℕ) : Type 0 where
   pub kept : Kept x
-  pub left : roomed x old ≡ writeRecord x (length old)
+  pub left : fitted (length old) (recordBytes x) ≡ writeRecord x (length old)
 
 refused-as : (x : Record) (old : List ℕ) {n : ℕ} → refused n ≡ writeRecord x (length old) → Wrote x old (Written′.Refused n) old
 refused-as x old e = (ap written e, ap (lent old) e)
@@ -46,12 +45,12 @@ refused-as x old e = (ap written e, ap (lent old) e)
 module _ (x : Record) (old : List ℕ) {s : Status} (says : s ≡ status (recordChecked x)) where
   pub write-refused : {n : ℕ} → s ≡ Status′.Refused n → Wrote x old (Written′.Refused n) old
   write-refused e =
-      refused-as x old (rules-refused (recordRules x []) says (roomed x old) e ∙ rules-then x (tooShort (length old) (recordBytes x) ∷ []) (answered (recordBytes x)))
+      refused-as x old (rules-refused (recordRules x []) says (fitted (length old) (recordBytes x)) e ∙ rules-then x (tooShort (length old) (recordBytes x) ∷ []) (answered (recordBytes x)))
 
   pub write-passed : s ≡ Status′.Done → Passed x old
   write-passed done = record {
     kept = rules-kept (recordRules x []) says done;
-    left = rules-passed (recordRules x []) says (roomed x old) done ∙ rules-then x (tooShort (length old) (recordBytes x) ∷ []) (answered (recordBytes x));
+    left = rules-passed (recordRules x []) says (fitted (length old) (recordBytes x)) done ∙ rules-then x (tooShort (length old) (recordBytes x) ∷ []) (answered (recordBytes x));
   }
 
 -- then the call goes by the length of the body
@@ -84,3 +83,20 @@ module _ {x : Record} {old : List ℕ} (passed : Passed x old) {size : ℕ} (lon
         let put : Put old 0 (recordBytes x) new end = rw (kind-and-body x) (written-next old 0 kind (bodyBytes x) both-room first second) in
         let same : end ≡ length (recordBytes x) = omega (arith, put .0) in
         (ap Written′.Bytes same ∙ ap written by, put .1 ∙ ap (lent old) by)
+
+-- ---- what a writer's answer says of what it wrote
+
+pub wrote-as : {a b : Answered (List ℕ)} (old : List ℕ) → a ≡ b → {r : Written} {new : List ℕ} → WroteBytes a old r new → WroteBytes b old r new
+wrote-as old same {r} {new} p = subst (λ (x : Answered (List ℕ)). WroteBytes x old r new) same p
+
+pub written-refused : (a : Answered (List ℕ)) {n : ℕ} → written a ≡ Written′.Refused n → refused n ≡ a
+written-refused (answered bytes) e = let z : _≡_ {A = ℕ} 0 1 = cc in absurd (omega arith)
+written-refused (refused m) e = cc
+
+-- a length that is written is that of the bytes
+pub fitted-length : (room : ℕ) (bytes : List ℕ) {n : ℕ} → written (fitted room bytes) ≡ Written′.Bytes n → n ≡ length bytes
+fitted-length room bytes {n} = by (ltb room (length bytes))
+  where
+    by : (b : Bool) → written (refuseIf b 12 (answered bytes)) ≡ Written′.Bytes n → n ≡ length bytes
+    by true e = let z : _≡_ {A = ℕ} 0 1 = cc in absurd (omega arith)
+    by false e = cc

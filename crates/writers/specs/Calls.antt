@@ -1,11 +1,11 @@
 -- The calls that write records: for each its rules in their order, and its answer (document 01, "Records" and "Who causes which number").
 -- Definitions only. Assumes nothing.
 use mathlib.Core.Path.{_≡_}
-use mathlib.Core.List.{List, [], _∷_, _++_}
+use mathlib.Core.List.{List, [], _∷_}
 use Prim.Native.Nat.{ℕ}
 use lib.Dec.{ltb}
 use lib.ListN.{length}
-use Rattle.cell.specs.Refusal.{Rule, rule, Answered, answered, refused, checked, NoneBroken}
+use Rattle.cell.specs.Refusal.{Rule, rule, Answered, answered, refused, checked}
 use Rattle.cell.specs.Calls.{tableRules, gateRules, witnessRules}
 use Rattle.job.specs.declared.job.Job.{Job}
 use Rattle.job.specs.Calls.{jobRules, isEnded}
@@ -20,6 +20,10 @@ use Rattle.records.specs.Record.{Record, ofTable, ofGate, ofWitness, ofJob, rec
 abbrev pub tooShort : ℕ → List ℕ → Rule
 tooShort room bytes = rule 12 (ltb room (length bytes))
 
+-- bytes to write, in a buffer of so many: 12
+abbrev pub fitted : ℕ → List ℕ → Answered (List ℕ)
+fitted room bytes = checked (tooShort room bytes ∷ []) (answered bytes)
+
 -- 13: saving an ended job
 abbrev pub hasEnded : Job → Rule
 hasEnded j = rule 13 (isEnded (j .state .stage))
@@ -31,12 +35,9 @@ recordRules (ofGate t g) others = gateRules t g others
 recordRules (ofWitness t w) others = witnessRules t w others
 recordRules (ofJob j) others = jobRules j (hasEnded j ∷ others)
 
--- the test of a record, and that it keeps its rules
+-- the test of a record
 abbrev pub recordChecked : Record → Answered (Unit {0})
 recordChecked x = checked (recordRules x []) (answered tt)
-
-abbrev pub Kept : Record → Type 0
-Kept x = NoneBroken (recordRules x [])
 
 -- the bytes to write, in a buffer of so many bytes
 abbrev pub writeRecord : Record → ℕ → Answered (List ℕ)

@@ -8,6 +8,7 @@ use Rattle.table.proofs.BinateRows.{table-binate-counts}
 use Rattle.state.proofs.MachineLaws.{fresh-open, fresh-binate}
 use Rattle.job.specs.Machine.{fresh}
 use Rattle.claims.proofs.TrueInputs.{table-distance, table-gate-true}
+use Rattle.claims.proofs.Traces.{traced-total, traced-a, traced-b, traced-from}
 use Rattle.claims.proofs.tables_as_written.Statement.{statement}
 use Rattle.claims.proofs.tables_as_written.Tie as tie
 
@@ -28,6 +29,7 @@ returns c = λ t. record {
   corrected-a = table-corrected-a t;
   corrected-b = λ v r. corrected-threshold (value t r) (level 2 r) v;
   ranged = λ k v. (λ h. rw (one-mul k) at h, λ h. rw (one-mul k) h);
+  traced = λ x. (λ h. (traced-total t x h, traced-a t x h, traced-b t x h), λ h. traced-from t x (h .0) (h .1) (h .2));
 }
 
 pub tables-as-written-spec : {M : Type 1} → statement M

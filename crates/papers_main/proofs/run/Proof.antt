@@ -1,4 +1,4 @@
--- `run` is safe and ends. The invariant: no more vectors were counted than bytes passed. The measure is what is left of
+-- `run` is safe and ends. The invariant: no more functions were counted than bytes passed. The measure is what is left of
 -- the lines. Assumes nothing.
 use Prim.Native.Nat.{_-_, _≤_}
 use borrow.Author.Needs.{needs}
@@ -7,10 +7,10 @@ use Rattle.papers_main.proofs.run.Statement.{statement}
 use Rattle.papers_main.proofs.run.Tie as tie
 
 abbrev Inv-loop : tie.InvT-loop
-Inv-loop lines vectors₀ all-idle₀ at₀ vectors all-idle at = vectors ≤ at
+Inv-loop lines functions₀ all-idle₀ at₀ functions all-idle at = functions ≤ at
 
 abbrev μ-loop : tie.MeasureT-loop
-μ-loop lines vectors₀ all-idle₀ at₀ vectors all-idle at = length lines - at
+μ-loop lines functions₀ all-idle₀ at₀ functions all-idle at = length lines - at
 
 pub run-spec : {M : Type 1} → statement M
 run-spec =

@@ -7,8 +7,8 @@ use Rattle.reading.specs.Fields.{kindField, tableBy, tableField, takenBy}
 use Rattle.reading.specs.declared.kind.KindField.{KindField}
 use Rattle.reading.specs.declared.kind.Takes.{Takes}
 use Rattle.reading.specs.declared.tables.TableField.{TableField}
-use Rattle.records.specs.Calls.{asBody, bodyBy, ended}
-use Rattle.records.specs.declared.read.Body.{Body}
+use Rattle.records.specs.Calls.{recordField, bodyBy, ended}
+use Rattle.records.specs.declared.read.RecordField.{RecordField}
 use Rattle.records.specs.declared.read.Read.{Read}
 use Rattle.reading.proofs.kind.KindField as K
 use Rattle.reading.proofs.kind.KindField.Laws as K′
@@ -16,8 +16,8 @@ use Rattle.reading.proofs.kind.Takes as P
 use Rattle.reading.proofs.kind.Takes.Laws as P′
 use Rattle.reading.proofs.tables.TableField as T
 use Rattle.reading.proofs.tables.TableField.Laws as T′
-use Rattle.records.proofs.read.Body as B
-use Rattle.records.proofs.read.Body.Laws as B′
+use Rattle.records.proofs.read.RecordField as B
+use Rattle.records.proofs.read.RecordField.Laws as B′
 use Rattle.records.proofs.read.Read as R
 use Rattle.records.proofs.read.Read.Laws as R′
 use Rattle.readers.proofs.reader.Plain.{Plain, enum, struct}
@@ -41,10 +41,10 @@ table = struct T.the-type T′.the-laws T′.the-copy
 abbrev pub kindMeant : Takes → List ℕ → ℕ → KindField
 kindMeant takes bytes at = kindField (kindAt (takenBy takes) bytes at)
 
-abbrev pub bodyMeant : KindField → List ℕ → ℕ → Body
-bodyMeant k bytes at = asBody (bodyBy (k .kind) bytes at)
+abbrev pub bodyMeant : KindField → List ℕ → ℕ → RecordField
+bodyMeant k bytes at = recordField (bodyBy (k .kind) bytes at)
 
-abbrev pub endMeant : Body → List ℕ → ℕ → Read
+abbrev pub endMeant : RecordField → List ℕ → ℕ → Read
 endMeant b bytes at = ended (b .read) bytes at
 
 abbrev pub tableMeant : KindField → List ℕ → ℕ → TableField

@@ -31,7 +31,7 @@ use Rattle.reading.specs.declared.kind.Takes.the-variants as Takes′
 use Rattle.reading.proofs.kind.Takes as P
 use Rattle.reading.proofs.kind.Takes.Laws as P′
 use Rattle.readers.specs.declared.reader.Reader.{Reader}
-use Rattle.readers.specs.Reader.{Stands, Starts, MovedTo}
+use Rattle.readers.specs.Reader.{ReaderAt, Starts, MovedTo}
 use Rattle.readers.proofs.reader.Forwarding.{ended, Gives}
 use Rattle.readers.proofs.reader.Held.{row, Src, sliceOf, slice-copy}
 use Rattle.readers.proofs.reader.Plain.{Plain}
@@ -94,14 +94,14 @@ module _ {M : Type 1} (𝓤 : URA M) (H : Heap 𝓤) (A : Atoms 𝓤) where
   abbrev pub Moved : Contract 𝓤
   Moved = Stating 𝓤 moved.ended Moving H A
 
-  abbrev pub Reading : (P S : Plain) → (P .row .Denot → List ℕ → ℕ → S .row .Denot) → Contract 𝓤
-  Reading P S meant = Stating 𝓤 (ended P S) (Gives P S meant) H A
+  abbrev pub Reads : (P S : Plain) → (P .row .Denot → List ℕ → ℕ → S .row .Denot) → Contract 𝓤
+  Reads P S meant = Stating 𝓤 (ended P S) (Gives P S meant) H A
 
 -- what is read where a reader stands; and where it stands once it was moved
-pub there : {X : Type 0} (m : List ℕ → ℕ → X) (s : RefT (List ℕ)) (n : ℕ) (r : Reader) → Stands s n r → m (now (r .src)) (r .at) ≡ m (now s) n
+pub there : {X : Type 0} (m : List ℕ → ℕ → X) (s : RefT (List ℕ)) (n : ℕ) (r : Reader) → ReaderAt s n r → m (now (r .src)) (r .at) ≡ m (now s) n
 there m s n r e = ap (λ (x : RefT (List ℕ)). m (now x) (r .at)) (e .0) ∙ ap (λ (p : ℕ). m (now s) p) (e .1)
 
-pub moved-on : (s : RefT (List ℕ)) (n m : ℕ) (r q : Reader) → Stands s n r → Stands (r .src) m q → Stands s m q
+pub moved-on : (s : RefT (List ℕ)) (n m : ℕ) (r q : Reader) → ReaderAt s n r → ReaderAt (r .src) m q → ReaderAt s m q
 moved-on s n m r q e e′ = (e′ .0 ∙ e .0, e′ .1)
 
 -- a contract states what the way comes to: x was read by the way, and that is z
@@ -143,20 +143,20 @@ module _ {M : Type 1} (𝓤 : URA M) (H : Heap 𝓤) (A : Atoms 𝓤) (κ : Lft)
   -- each call as a step: of `start`, after which the slice is still had, of `moved`, which makes what the number owns, and of a function that reads
   module _ {K : Type 0} {W : Given 𝓤 H A} {Γ : List (Item 𝓤)} {E : Env 𝓤 H} {C : Calls 𝓤 H} {Λ : Loops 𝓤 H} {f : Name} {xs : List Opd} {d : Place} {rest : Body} {p : Post 𝓤 H} (t : K) (fm : FmC 𝓤 H (W .laws) C) where
     pub starts : Triple 𝓤 (C f) (Start 𝓤 H A) → (s : RefT (List ℕ)) → Opds K W (raw (Start 𝓤 H A .pre (to-start s, tt)) ∷ ‵ (Own s) ∷ Γ) E xs (sliceOf s ∷ [])
-        → ((u : Val) (r : Reader) → Stands s 0 r → Is (row (κ, tt)) r (u ∷ []) → Seq K W (‵ (OwnR r u) ∷ token ∷ ‵ (Own s) ∷ Γ) (lands C Λ E d u rest p))
+        → ((u : Val) (r : Reader) → ReaderAt s 0 r → Is (row (κ, tt)) r (u ∷ []) → Seq K W (‵ (OwnR r u) ∷ token ∷ ‵ (Own s) ∷ Γ) (lands C Λ E d u rest p))
         → Seq K W (‵ (Own s) ∷ token ∷ Γ) (runs C Λ E (seq (call f xs d) rest) p)
     starts known s os k =
         use1 W (‵ (Own s) ⊛ ‵ (Own s)) (slice-copy 𝓤 H A W κ .twice s (sliceOf s ∷ [])) $ split t $ nothing t $ move t (1 ∷ 0 ∷ []) $ fjoin t $ move t (2 ∷ 0 ∷ []) $
         calls 𝓤 start.ended Starting H A (to-start s) t fm known os k
 
     pub moves : Triple 𝓤 (C f) (Moved 𝓤 H A) → (r : Reader) (u : Val) (n : ℕ) → n < 2 ^ 64 → Opds K W (raw (Moved 𝓤 H A .pre (to-moved r u n, tt)) ∷ Γ) E xs (u ∷ vint w64 n ∷ [])
-        → ((w : Val) (o : Reader) → Stands (r .src) n o → Is (row (κ, tt)) o (w ∷ []) → Seq K W (‵ (OwnR o w) ∷ token ∷ Γ) (lands C Λ E d w rest p))
+        → ((w : Val) (o : Reader) → ReaderAt (r .src) n o → Is (row (κ, tt)) o (w ∷ []) → Seq K W (‵ (OwnR o w) ∷ token ∷ Γ) (lands C Λ E d w rest p))
         → Seq K W (‵ (OwnR r u) ∷ token ∷ Γ) (runs C Λ E (seq (call f xs d) rest) p)
     moves known r u n fits os k =
         owned t usize (Is usize) (uint-makes 𝓤 H A W w64) n _ (refl, fits) $ move t (1 ∷ 2 ∷ 0 ∷ []) $ hands t r usize n $ calls 𝓤 moved.ended Moving H A (to-moved r u n) t fm known os k
 
-    pub reads : (P S : Plain) (meant : P .row .Denot → List ℕ → ℕ → S .row .Denot) → Triple 𝓤 (C f) (Reading 𝓤 H A P S meant) → (r : Reader) (u : Val) (x : P .row .Denot) (v : Val)
-        → Opds K W (raw (Reading 𝓤 H A P S meant .pre (to P S r u x v, tt)) ∷ Γ) E xs (u ∷ v ∷ [])
+    pub reads : (P S : Plain) (meant : P .row .Denot → List ℕ → ℕ → S .row .Denot) → Triple 𝓤 (C f) (Reads 𝓤 H A P S meant) → (r : Reader) (u : Val) (x : P .row .Denot) (v : Val)
+        → Opds K W (raw (Reads 𝓤 H A P S meant .pre (to P S r u x v, tt)) ∷ Γ) E xs (u ∷ v ∷ [])
         → ((w : Val) (z : S .row .Denot) → z ≡ meant x (now (r .src)) (r .at) → Is (S .row) z (w ∷ []) → Seq K W (‵ (S .row .own z (w ∷ [])) ∷ token ∷ Γ) (lands C Λ E d w rest p))
         → Seq K W (‵ (OwnR r u) ∷ token ∷ ‵ (P .row .own x (v ∷ [])) ∷ Γ) (runs C Λ E (seq (call f xs d) rest) p)
     reads P S meant known r u x v os k = hands t r (P .row) x $ calls 𝓤 (ended P S) (Gives P S meant) H A (to P S r u x v) t fm known os k

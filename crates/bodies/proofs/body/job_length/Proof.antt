@@ -1,7 +1,6 @@
 -- `bodies::body::job_length` meets its contract: the lengths of the fields, which are too small for their sum to wrap. Assumes nothing.
 use Prim.Native.Nat.{_+_, _≤_}
 use native.Mathlib.Omega.{arith}
-use lib.ListN.{length}
 use borrow.Author.Needs.{needs}
 use Rattle.table.proofs.TableLaws.{rows-le}
 use Rattle.job.proofs.JobChecked.{kept-sound}

@@ -13,8 +13,7 @@ use Rattle.codec.specs.TableField.{tableBytes}
 use Rattle.codec.specs.Written.{Room, Put}
 use Rattle.codec.proofs.WrittenLaws.{written-room, written-rest, written-next, written-part}
 use Rattle.cell.proofs.TableChecked.{kept-inputs}
-use Rattle.records.specs.Record.{ofJob}
-use Rattle.bodies.specs.Body.{numbersBytes}
+use Rattle.records.specs.Record.{numbersBytes}
 use Rattle.bodies.proofs.RecordParts.{savable}
 use Rattle.bodies.proofs.BodyLaws.{fields, job-parts}
 use Rattle.bodies.proofs.body.put_job.Statement.{statement}

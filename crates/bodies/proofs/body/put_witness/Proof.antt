@@ -1,5 +1,5 @@
 -- `bodies::body::put_witness` meets its contract: the table, and the row list in the rest of the buffer. Assumes nothing.
-use Prim.Native.Nat.{_+_, _≤_}
+use Prim.Native.Nat.{_≤_}
 use native.Mathlib.Omega.{arith}
 use lib.ListN.{length}
 use borrow.Author.Needs.{needs}

@@ -3,7 +3,6 @@ use mathlib.Core.Path.{_≡_}
 use Prim.Native.Nat.{_+_, _≤_}
 use native.Mathlib.Omega.{arith}
 use lib.ListN.{length}
-use borrow.Author.Needs.{needs}
 use Rattle.table.proofs.TableLaws.{rows-le}
 use Rattle.cell.proofs.TableChecked.{kept-inputs}
 use Rattle.records.specs.Record.{Record, ofWitness, bodyBytes}

@@ -9,7 +9,7 @@ use Rattle.cell.specs.Refusal.{Answered}
 use Rattle.cell.specs.Calls.{checkGate, checkWitness}
 use Rattle.types.specs.declared.kind.Kind.{Kind}
 use Rattle.codec.specs.Kind.{gates, witnesses}
-use Rattle.results.specs.Result.{asResult, said, row, rowOf, saidOf}
+use Rattle.results.specs.Result.{asResult, said, case, caseOf, saidOf}
 use Rattle.results.proofs.ResultLaws.{answer-result}
 use Rattle.certificates.proofs.KindLaws.{known, no-certificate}
 use Rattle.certificates.proofs.certificate.check_read.Statement.{statement}
@@ -23,11 +23,11 @@ abbrev of-witness : tie.Start → Answered ℕ
 of-witness s = let r = s .args .given in said (checkWitness (r .table) (r .witness))
 
 abbrev by-kind : tie.Start → Kind → Answered ℕ
-by-kind s kind = saidOf kind (row gates (of-gate s) ∷ row witnesses (of-witness s) ∷ [])
+by-kind s kind = saidOf kind (case gates (of-gate s) ∷ case witnesses (of-witness s) ∷ [])
 
 -- a gate
 returns : tie.Need-returns
-unfolding rowOf
+unfolding caseOf
 returns c =
     let told = c .before .before in
     let s = told .before .before in
@@ -37,7 +37,7 @@ returns c =
 
 -- a witness
 returns-2 : tie.Need-returns-2
-unfolding rowOf
+unfolding caseOf
 returns-2 c =
     let told = c .before .before in
     let s = told .before .before in

@@ -9,7 +9,7 @@ use Rattle.cell.specs.Refusal.{Answered}
 use Rattle.cell.specs.Calls.{tableValue, gateValue}
 use Rattle.types.specs.declared.kind.Kind.{Kind}
 use Rattle.codec.specs.Kind.{tables, gates}
-use Rattle.results.specs.Result.{asResult, said, row, rowOf, saidOf}
+use Rattle.results.specs.Result.{asResult, said, case, caseOf, saidOf}
 use Rattle.results.proofs.ResultLaws.{answer-result}
 use Rattle.certificates.proofs.KindLaws.{known, no-value}
 use Rattle.certificates.proofs.certificate.value_read.Statement.{statement}
@@ -23,11 +23,11 @@ abbrev of-gate : tie.Start → Answered ℕ
 of-gate s = said (gateValue (s .args .given .gate) (s .args .row))
 
 abbrev by-kind : tie.Start → Kind → Answered ℕ
-by-kind s kind = saidOf kind (row tables (of-table s) ∷ row gates (of-gate s) ∷ [])
+by-kind s kind = saidOf kind (case tables (of-table s) ∷ case gates (of-gate s) ∷ [])
 
 -- a table
 returns : tie.Need-returns
-unfolding rowOf
+unfolding caseOf
 returns c =
     let told = c .before .before in
     let s = told .before .before in
@@ -37,7 +37,7 @@ returns c =
 
 -- a gate
 returns-2 : tie.Need-returns-2
-unfolding rowOf
+unfolding caseOf
 returns-2 c =
     let told = c .before .before in
     let s = told .before .before in

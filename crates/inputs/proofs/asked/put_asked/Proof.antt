@@ -8,7 +8,8 @@ use mir.Syntax.{w64}
 use borrow.Author.Needs.{needs}
 use Rattle.numbers.proofs.Int.{back}
 use Rattle.cell.proofs.TableChecked.{kept-inputs}
-use Rattle.results.specs.Result.{fitted, Returned}
+use Rattle.writers.specs.Calls.{fitted}
+use Rattle.results.specs.Result.{Returned}
 use Rattle.results.proofs.ResultLaws.{returned-as}
 use Rattle.inputs.specs.declared.asked.Asked.{Asked}
 use Rattle.inputs.specs.Inputs.{inputBytes, chowBytes, askedBytes}

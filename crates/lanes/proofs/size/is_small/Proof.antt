@@ -14,7 +14,7 @@ use mir.Facts.{toZ-ofZ}
 use Rattle.numbers.specs.Sum.{sumBelow}
 use Rattle.numbers.proofs.SumLaws.{sum-below-zero, sum-below-suc, sum-below-most}
 use Rattle.table.specs.Gate.{weightLimit}
-use Rattle.machine.proofs.RangeLaws.{InRange, in-range-correct, in-range-at}
+use Rattle.function.proofs.RangeLaws.{InRange, in-range-correct, in-range-at}
 use Rattle.lanes.specs.Sums.{magnitude}
 use Rattle.lanes.proofs.SumsLaws.{sizeAt}
 use Rattle.lanes.proofs.size.is_small.Statement.{statement}

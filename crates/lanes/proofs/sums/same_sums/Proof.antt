@@ -17,7 +17,7 @@ use Rattle.numbers.proofs.TestLaws.{not-passed}
 use Rattle.types.specs.declared.vector.Vector.{Vector}
 use Rattle.function.specs.Vector.{sameVector}
 use Rattle.function.proofs.VectorLaws.{same-vector-correct}
-use Rattle.machine.proofs.RangeLaws.{in-range-correct}
+use Rattle.function.proofs.RangeLaws.{in-range-correct}
 use Rattle.lanes.specs.Sums.{vectorSums}
 use Rattle.lanes.proofs.WeightLaws.{sums-same}
 use Rattle.lanes.proofs.sums.same_sums.Statement.{statement}

@@ -22,7 +22,7 @@ use Rattle.table.specs.Gate.{weightLimit}
 use Rattle.table.specs.Inputs.{lowestOf}
 use Rattle.machine.specs.Scan.{rowDistance, failsAt}
 use Rattle.numbers.proofs.PowerLaws.{one-shifted}
-use Rattle.machine.proofs.RangeLaws.{InRange, in-range-correct, in-range-at}
+use Rattle.function.proofs.RangeLaws.{InRange, in-range-correct, in-range-at}
 use Rattle.machine.proofs.DistanceLaws.{distance-zero, distance-size}
 use Rattle.machine.proofs.ScanLaws.{Passed, fails-at-test, blockSearch, block-row, block-passed, scan-row, scan-nowhere}
 use Rattle.machine.proofs.scan.first_failing.Statement.{statement}

@@ -25,7 +25,8 @@ use Rattle.table.proofs.TableLaws.{level-lt}
 use Rattle.types.specs.declared.vector.Vector.{Vector}
 use Rattle.function.specs.Vector.{sign, correctedBy}
 use Rattle.function.proofs.VectorLaws.{getD-add-levels, corrected-weights, corrected-threshold, length-corrected, vector-eq}
-use Rattle.machine.proofs.RangeLaws.{InRange, in-range-correct, in-range-at, row-in-range}
+use Rattle.function.proofs.RangeLaws.{InRange, in-range-correct, in-range-at}
+use Rattle.machine.proofs.RangeLaws.{row-in-range}
 use Rattle.machine.proofs.vector.corrected_by.Statement.{statement}
 use Rattle.machine.proofs.vector.corrected_by.Tie as tie
 

@@ -18,9 +18,11 @@ use Rattle.job.specs.declared.job.Job.{Job}
 use Rattle.writers.specs.declared.write.Written.the-variants as Written′
 use Rattle.records.specs.Record.{recordBytes}
 use Rattle.writers.specs.Calls.{written}
+use Rattle.writers.proofs.WriteLaws.{written-refused, fitted-length}
 use Rattle.results.specs.Result.{asResult, measured}
+use Rattle.results.proofs.ResultLaws.{measured-length}
 use Rattle.outcome.specs.Outcome.{jobOf, outcome, outcomeWritten}
-use Rattle.outcome.proofs.HandedLaws.{written-refused, written-length, fitted-length, handed-with, made-handed, made-held}
+use Rattle.outcome.proofs.HandedLaws.{handed-with, made-handed, made-held}
 use Rattle.outcome.proofs.OutcomeLaws.{outcome-most}
 use Rattle.outcome.proofs.outcome.put_outcome.Statement.{statement}
 use Rattle.outcome.proofs.outcome.put_outcome.Tie as tie
@@ -63,7 +65,7 @@ returns c =
     let value : toZ w64 (at .answer .given .0 .0) ≡ pos (at .answer .given .0 .0) = toZ-pos w64 (omega (arith, small at)) in
     let a = start (wrote at) .args in
     handed-with (call (wrote at)) (a .corrections) (a .out .now) (a .made .now)
-    (value ∙ ap asResult (written-length (call (wrote at)) (length-known at)), wrote at .write-outcome .ensures .1)
+    (value ∙ ap asResult (measured-length (call (wrote at)) (length-known at)), wrote at .write-outcome .ensures .1)
     (made-handed (call (wrote at)) (a .corrections) (a .made .now) (length-known at))
 
 -- ---- a refusal

@@ -10,7 +10,7 @@ use Rattle.job.specs.declared.job.Job.{Job}
 use Rattle.records.specs.Record.{ofGate, ofWitness}
 use Rattle.writers.specs.Calls.{writeRecord}
 use Rattle.outcome.specs.Outcome.{jobOf}
-use Rattle.outcome.proofs.HandedLaws.{wrote-as}
+use Rattle.writers.proofs.WriteLaws.{wrote-as}
 use Rattle.outcome.proofs.OutcomeLaws.{open-written, found-written, looped-written, binate-written}
 use Rattle.outcome.proofs.outcome.write_outcome.Statement.{statement}
 use Rattle.outcome.proofs.outcome.write_outcome.Tie as tie

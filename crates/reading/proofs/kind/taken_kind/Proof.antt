@@ -1,5 +1,5 @@
 -- `reading::kind::taken_kind` meets its contract: a caller takes every kind, or that of a table alone. Assumes nothing.
-use mathlib.Core.Path.{_≡_, sym, _∙_, ap}
+use mathlib.Core.Path.{sym, _∙_, ap}
 use borrow.Author.Needs.{needs}
 use borrow.Author.Tests.{ne-eqb}
 use Rattle.codec.specs.Kind.{familyIn}

@@ -5,12 +5,12 @@ use mathlib.Core.List.{List}
 use Prim.Native.Nat.{ℕ, _≤_}
 use native.Mathlib.Omega.{arith}
 use borrow.Author.Needs.{needs}
-use Rattle.table.specs.Table.{rowsOf, spareSet}
+use Rattle.table.specs.Table.{rowsOf}
 use Rattle.table.proofs.TableLaws.{rows-le}
 use Rattle.cell.specs.Refusal.{answered}
-use Rattle.codec.specs.Field.{Field, Reading, field}
+use Rattle.codec.specs.Field.{Reading, field}
 use Rattle.codec.specs.Number.{numberAt}
-use Rattle.codec.specs.TableField.{inputsAt, bitsAt, tableAt}
+use Rattle.codec.specs.TableField.{inputsAt, bitsAt}
 use Rattle.codec.proofs.NumberLaws.{number-next}
 use Rattle.reading.specs.declared.number.NumberField.{NumberField}
 use Rattle.reading.specs.declared.tables.BitsField.{BitsField}

@@ -39,7 +39,7 @@ use Rattle.reading.proofs.kind.Takes.Laws as P′
 use Rattle.readers.proofs.reader.table.Symbol as table-def
 use Rattle.readers.proofs.reader.table.Met as table-thm
 use Rattle.readers.specs.declared.reader.Reader.{Reader}
-use Rattle.readers.specs.Reader.{Stands}
+use Rattle.readers.specs.Reader.{ReaderAt}
 use Rattle.readers.proofs.reader.Held.{Src, sliceOf, slice-typed, reader-copy}
 use Rattle.readers.proofs.reader.Passed as Passed
 use Rattle.readers.proofs.reader.Plain.{Plain}
@@ -50,21 +50,21 @@ use Rattle.readers.proofs.reader.moved.Symbol as moved-def
 use Rattle.readers.proofs.reader.moved.Met as moved-thm
 use Rattle.readers.proofs.reader.kind.Symbol as kind-def
 use Rattle.readers.proofs.reader.kind.Met as kind-thm
-use Rattle.receiving.proofs.record.Stop.{Stop, stopped, kind, spelled, ends-typed}
-use Rattle.receiving.proofs.record.Travel.{byTag, tagged, IsTag, tag-small, tagged-takes, reader, var, nextOf, keeps, gets, Start, Moved, Reading, there, moved-on, comes-to, token, Own, OwnR, held, starts, moves, reads}
+use Rattle.receiving.proofs.record.Stop.{Stop, stopTy, kind, spelled, ends-typed}
+use Rattle.receiving.proofs.record.Travel.{byTag, tagged, IsTag, tag-small, tagged-takes, reader, var, nextOf, keeps, gets, Start, Moved, Reads, there, moved-on, comes-to, token, Own, OwnR, held, starts, moves, reads}
 use Rattle.receiving.proofs.record.table_at.Key as key
 use Rattle.receiving.proofs.record.table_at as this
 use Rattle.receiving.proofs.record.table_at.Statement as stated
 use Rattle.receiving.proofs.record.table_at.Code as code
 
 -- over the types of what is taken, of a kind byte and of the result, and what is read of each
-module _ (X : Plain) (K : Stop) (S : Plain) (taken : ℕ → X .row .Denot) (kindOf : X .row .Denot → List ℕ → ℕ → K .row .Denot) (tableOf : K .row .Denot → List ℕ → ℕ → S .row .Denot) where
+module _ (X : Plain) (K : Stop) (S : Plain) (taken : ℕ → X .row .Denot) (kindOf : X .row .Denot → List ℕ → ℕ → K .plain .row .Denot) (tableOf : K .plain .row .Denot → List ℕ → ℕ → S .row .Denot) where
   abbrev function : ℕ → Fn
   function i = record {
     lifetimes = 1;
     outlives = [];
     params = 2;
-    locals = local (S .ty) valueLocal ∷ local (sliceTy (tyRef (named 0) imm (tyInt w8))) valueLocal ∷ local (tyInt w64) valueLocal ∷ reader ∷ local (stopped K .ty) valueLocal ∷ reader ∷ reader
+    locals = local (S .ty) valueLocal ∷ local (sliceTy (tyRef (named 0) imm (tyInt w8))) valueLocal ∷ local (tyInt w64) valueLocal ∷ reader ∷ local (stopTy (K .name) (K .part)) valueLocal ∷ reader ∷ reader
         ∷ local (X .ty) valueLocal ∷ reader ∷ [];
     body = gets 5 start-def.name (var 1 ∷ []) (gets 3 moved-def.name (var 5 ∷ var 2 ∷ []) (keeps 6 3 (seq (assign (place 7 []) (aggregate (int w8 i ∷ []))) (gets 4 kind-def.name (var 6 ∷ var 7 ∷ [])
         (keeps 8 3 (gets 5 moved-def.name (var 8 ∷ nextOf 4 ∷ []) (gets 0 table-def.name (var 5 ∷ var 4 ∷ []) return)))))));
@@ -80,7 +80,7 @@ module _ (X : Plain) (K : Stop) (S : Plain) (taken : ℕ → X .row .Denot) (kin
   stayed = (stay-none-slice (0 ∷ []) tt (plain (λ _. u8)) yes, (stay-none (λ _. usize) yes, tt))
 
   -- what is read by the way
-  abbrev ahead : List ℕ → K .row .Denot → S .row .Denot
+  abbrev ahead : List ℕ → K .plain .row .Denot → S .row .Denot
   ahead bytes k = tableOf k bytes (K .next k)
 
   abbrev travel : ℕ → List ℕ → ℕ → S .row .Denot
@@ -89,8 +89,8 @@ module _ (X : Plain) (K : Stop) (S : Plain) (taken : ℕ → X .row .Denot) (kin
   module _ (f : Fn) (i : ℕ) (same : f ≡ function i) {M : Type 1} (𝓤 : URA M) (H : Heap 𝓤) (A : Atoms 𝓤) (W : Given 𝓤 H A) (ok : IsTag i) (made : Is (X .row) (taken i) (tagged i ∷ [])) (makes : Makes 𝓤 H A (X .row) (Is (X .row)))
       (c : Clauses 𝓤 ended) (shown : (κs : Lfts 1) (a : Args signature κs) (g : c κs a .ghost) (r : S .row .Denot) (e : AtExit ended κs) → r ≡ travel i (now (a .0)) (a .1 .0) → Seq (Go {0}) W [] (prop (c κs a .ensures g r e))) where
     -- a reader that travelled through the kind byte has read the record of a table alone
-    travelled : (s : RefT (List ℕ)) (n : ℕ) (r r₁ r₂ : Reader) (k : K .row .Denot) (t : S .row .Denot) → Stands s 0 r → Stands (r .src) n r₁ → k ≡ kindOf (taken i) (now (r₁ .src)) (r₁ .at)
-        → Stands (r₁ .src) (K .next k) r₂ → t ≡ tableOf k (now (r₂ .src)) (r₂ .at) → t ≡ travel i (now s) n
+    travelled : (s : RefT (List ℕ)) (n : ℕ) (r r₁ r₂ : Reader) (k : K .plain .row .Denot) (t : S .row .Denot) → ReaderAt s 0 r → ReaderAt (r .src) n r₁ → k ≡ kindOf (taken i) (now (r₁ .src)) (r₁ .at)
+        → ReaderAt (r₁ .src) (K .next k) r₂ → t ≡ tableOf k (now (r₂ .src)) (r₂ .at) → t ≡ travel i (now s) n
     travelled s n r r₁ r₂ k t e e₁ ek e₂ et =
         let on = moved-on s 0 n r r₁ e e₁ in
         et ∙ there (tableOf k) s (K .next k) r₂ (moved-on s n (K .next k) r₁ r₂ on e₂) ∙ ap (ahead (now s)) (ek ∙ there (kindOf (taken i)) s n r₁ on)
@@ -110,7 +110,7 @@ module _ (X : Plain) (K : Stop) (S : Plain) (taken : ℕ → X .row .Denot) (kin
           move ! (1 ∷ []) $ frame ! $ nothing ! $ owned ! usize (Is usize) (uint-makes 𝓤 H A W w64) n _ (refl, fits) $ fjoin ! $ move ! (2 ∷ 0 ∷ []) $ fjoin ! $ frame ! $ done !
 
       module _ (C : Calls 𝓤 H) (Λ : Loops 𝓤 H) (fm : FmC 𝓤 H (W .laws) C) (known-start : Triple 𝓤 (C start-def.name) (Start 𝓤 H A)) (known-moved : Triple 𝓤 (C moved-def.name) (Moved 𝓤 H A))
-          (known-kind : Triple 𝓤 (C kind-def.name) (Reading 𝓤 H A X (stopped K) kindOf)) (known-table : Triple 𝓤 (C table-def.name) (Reading 𝓤 H A (stopped K) S tableOf)) where
+          (known-kind : Triple 𝓤 (C kind-def.name) (Reads 𝓤 H A X (K .plain) kindOf)) (known-table : Triple 𝓤 (C table-def.name) (Reads 𝓤 H A (K .plain) S tableOf)) where
         walk : Typed (Src κ .mir) (sliceOf s ∷ [])
             → ent 𝓤 (onEntry 𝓤 H A signature (κ, tt) (q, tt) (s, (n, tt)) at) (WpFn 𝓤 H C Λ (function i) (sliceOf s ∷ vint w64 n ∷ []) (walkOf 𝓤 H A ended stayed c .post y))
         walk wt =
@@ -127,8 +127,8 @@ module _ (X : Plain) (K : Stop) (S : Plain) (taken : ℕ → X .row .Denot) (kin
             assigns ! (of-opd ! (load ! (from ! (stop !)) (look ! 13 refl))) (from ! (stop !)) (init ! 7 refl (held 𝓤 H A κ q W r₁ u₁ is₁ .0)) $
             assigns ! (agg ! (and-then ! (lit ! (tag-small i ok)) (no-more !))) (from ! (stop !)) (init ! 5 refl (X .typed 𝓤 H A W (taken i) (tagged i) made .0)) $
             use1 W (‵ (OwnR 𝓤 H A κ q r₁ u₁) ⊛ ‵ (OwnR 𝓤 H A κ q r₁ u₁)) (reader-copy 𝓤 H A W (κ, tt) .twice r₁ (u₁ ∷ [])) $ split ! $
-            owned ! (X .row) (Is (X .row)) makes (taken i) _ made $ move ! (1 ∷ 3 ∷ 0 ∷ []) $ reads 𝓤 H A κ q ! fm X (stopped K) kindOf known-kind r₁ u₁ (taken i) (tagged i)
-            (and-then ! (load ! (from ! (stop !)) (look ! 7 refl)) (and-then ! (load ! (from ! (stop !)) (look ! 5 refl)) (no-more !))) (λ x k ek ik. rw (spelled (stopped K) k x ik) (
+            owned ! (X .row) (Is (X .row)) makes (taken i) _ made $ move ! (1 ∷ 3 ∷ 0 ∷ []) $ reads 𝓤 H A κ q ! fm X (K .plain) kindOf known-kind r₁ u₁ (taken i) (tagged i)
+            (and-then ! (load ! (from ! (stop !)) (look ! 7 refl)) (and-then ! (load ! (from ! (stop !)) (look ! 5 refl)) (no-more !))) (λ x k ek ik. rw (spelled K k x ik) (
             -- [what the kind owns; the token; what the reader owns; what s owns; the locals]
             let kt = ends-typed 𝓤 H A W K k x ik in
             land ! (from ! (stop !)) (init ! 12 refl (kt .0)) $
@@ -136,7 +136,7 @@ module _ (X : Plain) (K : Stop) (S : Plain) (taken : ℕ → X .row .Denot) (kin
             move ! (2 ∷ 1 ∷ []) $ moves 𝓤 H A κ q ! fm known-moved r₁ u₁ (K .next k) (kt .0 .1 .1 .0 .fits)
             (and-then ! (load ! (from ! (stop !)) (look ! 3 refl)) (and-then ! (load ! (from ! (fld ! refl (stop !))) (look-in ! 11 (sub ! 1 refl (whole !)))) (no-more !))) (λ u₂ r₂ e₂ is₂.
             -- [what the reader owns; the token; what the kind owns; what s owns; the locals]: _5 held the first reader
-            land ! (from ! (stop !)) (store ! 10 refl (held 𝓤 H A κ q W r₂ u₂ is₂ .0)) $ reads 𝓤 H A κ q ! fm (stopped K) S tableOf known-table r₂ u₂ k _
+            land ! (from ! (stop !)) (store ! 10 refl (held 𝓤 H A κ q W r₂ u₂ is₂ .0)) $ reads 𝓤 H A κ q ! fm (K .plain) S tableOf known-table r₂ u₂ k _
             (and-then ! (load ! (from ! (stop !)) (look ! 8 refl)) (and-then ! (load ! (from ! (stop !)) (look ! 10 refl)) (no-more !))) (λ v t et it.
             -- [the result; the token; what s owns; the locals]
             land ! (from ! (stop !)) (init ! 19 refl (S .typed 𝓤 H A W t v it .0)) $
@@ -146,7 +146,7 @@ module _ (X : Plain) (K : Stop) (S : Plain) (taken : ℕ → X .row .Denot) (kin
 
     -- it meets its contract
     meets : (𝓣 : Tables 𝓤 H) → Triple 𝓤 (𝓣 .C start-def.name) (Start 𝓤 H A) → Triple 𝓤 (𝓣 .C moved-def.name) (Moved 𝓤 H A)
-        → Triple 𝓤 (𝓣 .C kind-def.name) (Reading 𝓤 H A X (stopped K) kindOf) → Triple 𝓤 (𝓣 .C table-def.name) (Reading 𝓤 H A (stopped K) S tableOf) → Meets 𝓤 H A signature (WpFn 𝓤 H (𝓣 .C) (𝓣 .Λ) f) (closing 𝓤 H A ended c)
+        → Triple 𝓤 (𝓣 .C kind-def.name) (Reads 𝓤 H A X (K .plain) kindOf) → Triple 𝓤 (𝓣 .C table-def.name) (Reads 𝓤 H A (K .plain) S tableOf) → Meets 𝓤 H A signature (WpFn 𝓤 H (𝓣 .C) (𝓣 .Λ) f) (closing 𝓤 H A ended c)
     meets 𝓣 known-start known-moved known-kind known-table = subst (λ (h : Fn). Meets 𝓤 H A signature (WpFn 𝓤 H (𝓣 .C) (𝓣 .Λ) h) (closing 𝓤 H A ended c)) (sym same)
         (walk-meets 𝓤 H A ended stayed W (goes-none-slice 𝓤 H A W 1 (0 ∷ []) tt (plain (λ _. u8)) yes, (goes-none 𝓤 H A W 1 (λ _. usize) yes (λ κs x f. refl), tt)) c
         (WpFn 𝓤 H (𝓣 .C) (𝓣 .Λ) (function i)) (WpFn-mono 𝓤 H (W .laws) 𝓣 (function i))
@@ -163,5 +163,5 @@ table-at-spec 𝓤 H 𝓜 𝓖 𝓡 =
     (this.clauses 𝓤 H (𝓖 .A) (𝓜 .mem) (𝓡 .run)) (λ κs a g r e same. comes-to ! same (table-record (now (a .0)) (a .1 .0))) (tablesOf 𝓤 H 𝓜 (tables 𝓤 H 𝓜 𝓡 code.env))
     (cited 𝓤 H (Start 𝓤 H (𝓖 .A)) 𝓜 𝓡 code.env start-def.name start-def.routine code.calls-readers·reader·start (start-thm.met 𝓤 H 𝓜 𝓖 𝓡))
     (cited 𝓤 H (Moved 𝓤 H (𝓖 .A)) 𝓜 𝓡 code.env moved-def.name moved-def.routine code.calls-readers·reader·moved (moved-thm.met 𝓤 H 𝓜 𝓖 𝓡))
-    (cited 𝓤 H (Reading 𝓤 H (𝓖 .A) Passed.takes (stopped kind) Passed.kindMeant) 𝓜 𝓡 code.env kind-def.name kind-def.routine code.calls-readers·reader·kind (kind-thm.met 𝓤 H 𝓜 𝓖 𝓡))
-    (cited 𝓤 H (Reading 𝓤 H (𝓖 .A) (stopped kind) Passed.table Passed.tableMeant) 𝓜 𝓡 code.env table-def.name table-def.routine code.calls-readers·reader·table (table-thm.met 𝓤 H 𝓜 𝓖 𝓡)))
+    (cited 𝓤 H (Reads 𝓤 H (𝓖 .A) Passed.takes Passed.kind Passed.kindMeant) 𝓜 𝓡 code.env kind-def.name kind-def.routine code.calls-readers·reader·kind (kind-thm.met 𝓤 H 𝓜 𝓖 𝓡))
+    (cited 𝓤 H (Reads 𝓤 H (𝓖 .A) Passed.kind Passed.table Passed.tableMeant) 𝓜 𝓡 code.env table-def.name table-def.routine code.calls-readers·reader·table (table-thm.met 𝓤 H 𝓜 𝓖 𝓡)))

@@ -1,37 +1,45 @@
--- `records::read::body_at` meets its contract: a refused kind by its number, the table by `read_table`, and the rest by `read_rest`. Assumes
--- nothing.
-use mathlib.Core.Path.{_≡_, _∙_, ap}
+-- `records::read::body_at` meets its contract: a refused kind by its number, the table by `read_table`, and what follows it by each family's
+-- own function. Assumes nothing.
+use mathlib.Core.Path.{_≡_, refl, sym, _∙_, ap}
 use mathlib.Core.List.{List}
-use Prim.Native.Nat.{ℕ}
+use Prim.Native.Nat.{ℕ, _≤_}
 use borrow.Author.Needs.{needs}
 use Rattle.types.specs.declared.kind.Kind.{Kind}
 use Rattle.types.specs.declared.table.Table.{Table}
 use Rattle.cell.specs.Refusal.{answered, refused}
 use Rattle.cell.proofs.TableChecked.{kept-inputs}
-use Rattle.codec.specs.Field.{Field, Reading, field, onward}
+use Rattle.codec.specs.Field.{Field, Reading, field}
+use Rattle.codec.specs.Kind.{Family, tables, gates, witnesses, jobs}
 use Rattle.codec.specs.TableField.{tableAt}
-use Rattle.codec.proofs.FieldLaws.{onward-refused, onward-read}
+use Rattle.codec.proofs.FieldLaws.{onward-read}
 use Rattle.codec.proofs.TableFieldLaws.{table-taken}
 use Rattle.reading.specs.Fields.{familyOf}
 use Rattle.reading.proofs.FieldFacts.{Whole, kind-family, table-refused, table-done}
-use Rattle.records.specs.Record.{Record, bodyAt}
-use Rattle.records.specs.Calls.{asBody, restBy, bodyBy}
+use Rattle.records.specs.declared.read.RecordField.{RecordField}
+use Rattle.records.specs.Record.{Record, ofTable, gateAt, witnessAt, jobAt, afterTable, bodyAt}
+use Rattle.records.specs.Calls.{recordField, bodyBy}
 use Rattle.records.proofs.read.body_at.Statement.{statement}
 use Rattle.records.proofs.read.body_at.Tie as tie
 
--- of a kind that is no refusal: the table, and the rest
-body-is : (k : Kind) → Whole k → (s : List ℕ) (at : ℕ) → onward (tableAt s at) (λ t p. restBy k t s p) ≡ bodyBy k s at
-unfolding bodyAt
-body-is k w s at = rw (kind-family k w .1)
-
+-- a refused kind is passed on, and a refused table of any kind
 passed-on : (k : Kind) {n : ℕ} (s : List ℕ) (at : ℕ) → familyOf k ≡ refused n → refused n ≡ bodyBy k s at
 passed-on k s at e = rw e
+
+no-table : (f : Family) {n : ℕ} (s : List ℕ) (at : ℕ) → tableAt s at ≡ refused n → refused n ≡ bodyAt f s at
+unfolding bodyAt
+no-table tables s at e = rw e
+no-table gates s at e = rw e
+no-table witnesses s at e = rw e
+no-table jobs s at e = rw e
+
+table-first : (k : Kind) → Whole k → {n : ℕ} (s : List ℕ) (at : ℕ) → tableAt s at ≡ refused n → refused n ≡ bodyBy k s at
+table-first k w s at e = let (f, is) = kind-family k w in rw is (no-table f s at e)
 
 returns : tie.Need-returns
 returns c =
     let known = c .before .before in
     let a = c .before .before .before .before .before .args in
-    c .no-body .ensures ∙ ap asBody (passed-on (a .field .kind) (a .bytes .now) (a .at) (ap familyOf (known .kind .given .1)))
+    c .no-body .ensures ∙ ap recordField (passed-on (a .field .kind) (a .bytes .now) (a .at) (ap familyOf (known .kind .given .1)))
 
 module _ (c : tie.After-read-table) where
   abbrev start : tie.Start
@@ -40,38 +48,69 @@ module _ (c : tie.After-read-table) where
   abbrev kind : Kind
   kind = start .args .field .kind
 
-  abbrev rest : Table → ℕ → Reading Record
-  rest t p = restBy kind t (start .args .bytes .now) p
+  abbrev bytes : List ℕ
+  bytes = start .args .bytes .now
 
   abbrev table : Reading Table
-  table = tableAt (start .args .bytes .now) (start .args .at)
+  table = tableAt bytes (start .args .at)
 
   abbrev read : Field Table
   read = let r = c .read-table .result in field (r .table) (r .next)
-
-  past-kind : {next : Reading Record} → next ≡ onward table rest → asBody next ≡ asBody (bodyBy kind (start .args .bytes .now) (start .args .at))
-  past-kind e = ap asBody (e ∙ body-is kind (c .before .match .keys2) (start .args .bytes .now) (start .args .at))
 
 returns-2 : tie.Need-returns-2
 returns-2 c =
     let known = c .before .before in
     let at = known .before .before in
-    c .no-body2 .ensures ∙ past-kind at (onward-refused (table at) (rest at) (table-refused (table at) (at .read-table .ensures) (known .status .given .1)))
+    c .no-body2 .ensures ∙ ap recordField (table-first (kind at) (at .before .match .keys2) (bytes at) (start at .args .at) (table-refused (table at) (at .read-table .ensures) (known .status .given .1)))
 
-table-is : (c : tie.After-enum-told) → table (c .before .before) ≡ answered (read (c .before .before))
-table-is c = let at = c .before .before in table-done (table at) (at .read-table .ensures) (c .enum-told .given .1)
+-- after a table that was read
+module _ (c : tie.After-enum-told) where
+  abbrev at : tie.After-read-table
+  at = c .before .before
 
-read-rest-requires : tie.Need-read-rest-requires
-read-rest-requires c κs =
-    let told = c .before in
-    let at = told .before .before in
-    kept-inputs (read at .value) (table-taken (start at .args .bytes .now) (start at .args .at) (read at) (table-is told))
+  table-is : table at ≡ answered (read at)
+  table-is = table-done (table at) (at .read-table .ensures) (c .enum-told .given .1)
+
+  few : read at .value .n ≤ 8
+  few = kept-inputs (read at .value) (table-taken (bytes at) (start at .args .at) (read at) table-is)
+
+  -- a kind that is told decides what follows
+  by-kind : {known : Kind} (rest : Table → List ℕ → ℕ → Reading Record) {r : RecordField} → afterTable rest (bytes at) (start at .args .at) ≡ bodyBy known (bytes at) (start at .args .at)
+      → kind at ≡ known → r ≡ recordField (rest (read at .value) (bytes at) (read at .next)) → r ≡ recordField (bodyBy (kind at) (bytes at) (start at .args .at))
+  by-kind rest is same e =
+      e ∙ ap recordField (onward-read (table at) (λ t p. rest t (bytes at) p) table-is ∙ is ∙ ap (λ (k : Kind). bodyBy k (bytes at) (start at .args .at)) (sym same))
+
+read-gate-requires : tie.Need-read-gate-requires
+read-gate-requires c κs = few (c .before .before .before)
+
+read-witness-requires : tie.Need-read-witness-requires
+read-witness-requires c κs = few (c .before .before .before)
+
+read-job-requires : tie.Need-read-job-requires
+read-job-requires c κs = few (c .before .before .before)
 
 returns-3 : tie.Need-returns-3
+unfolding bodyAt
 returns-3 c =
-    let told = c .before .before in
-    let at = told .before .before in
-    c .read-rest .ensures ∙ past-kind at (onward-read (table at) (rest at) (table-is told))
+    let read = c .before .before .before .before in
+    by-kind read (λ t s p. answered (field (ofTable t) p)) refl (c .before .enum-told2 .given .1) (λ i. record { read = c .bare .ensures i; next = read .before .before .read-table .result .next })
+
+returns-4 : tie.Need-returns-4
+unfolding bodyAt
+returns-4 c = by-kind (c .before .before .before .before) gateAt refl (c .before .enum-told3 .given .1) (c .read-gate .ensures)
+
+returns-5 : tie.Need-returns-5
+unfolding bodyAt
+returns-5 c = by-kind (c .before .before .before .before) witnessAt refl (c .before .enum-told4 .given .1) (c .read-witness .ensures)
+
+returns-6 : tie.Need-returns-6
+unfolding bodyAt
+returns-6 c = by-kind (c .before .before .before .before) jobAt refl (c .before .enum-told5 .given .1) (c .read-job .ensures)
+
+returns-7 : tie.Need-returns-7
+returns-7 c =
+    let here = at (c .before .before .before .before .before) in
+    c .no-body3 .ensures ∙ ap recordField (passed-on (kind here) (bytes here) (start here .args .at) (ap familyOf (c .before .before .kind2 .given .1)))
 
 pub body-at-spec : {M : Type 1} → statement M
 body-at-spec =
@@ -85,5 +124,18 @@ body-at-spec =
     (λ c κs. search needs)
     returns-2
     (λ c. search needs)
-    read-rest-requires
-    returns-3)
+    (λ c. search needs)
+    (λ c κs. search needs)
+    (λ c. search needs)
+    read-gate-requires
+    (λ c. search needs)
+    read-witness-requires
+    (λ c. search needs)
+    read-job-requires
+    (λ c. search needs)
+    (λ c κs. search needs)
+    returns-3
+    returns-4
+    returns-5
+    returns-6
+    returns-7)

@@ -1,13 +1,12 @@
 -- `records::read::end_at` meets its contract: a refusal is passed on, and bytes are left or not. Assumes nothing.
 use mathlib.Core.Path.{_≡_, refl, _∙_, ap}
-use mathlib.Core.Bool.{Bool, true, false}
+use mathlib.Core.Bool.{Bool}
 use mathlib.Core.List.{List}
 use Prim.Native.Nat.{ℕ, _≤_, _<_}
 use lib.ListN.{length}
 use lib.Dec.{ltb}
 use borrow.Author.Needs.{needs}
 use borrow.Author.Tests.{lt-ltb, le-ltb}
-use Rattle.types.specs.declared.kind.Kind.{Kind}
 use Rattle.cell.specs.Refusal.{Answered, answered, refused, refuseIf}
 use Rattle.codec.specs.Kind.{Family}
 use Rattle.reading.specs.Fields.{familyOf}

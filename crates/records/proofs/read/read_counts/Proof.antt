@@ -22,7 +22,7 @@ use Rattle.rowlists.specs.declared.read.RowsField.{RowsField}
 use Rattle.rowlists.specs.Fields.{rowsField}
 use Rattle.rowlists.proofs.FieldFacts.{rows-refused, rows-done}
 use Rattle.records.specs.Record.{Record, ofJob, openJob, unsoundJob, countsAt}
-use Rattle.records.specs.Calls.{asBody}
+use Rattle.records.specs.Calls.{recordField}
 use Rattle.codec.proofs.FieldLaws.{onward-refused, onward-read}
 use Rattle.records.proofs.read.read_counts.Statement.{statement}
 use Rattle.records.proofs.read.read_counts.Tie as tie
@@ -59,7 +59,7 @@ returns c =
     let at = known .before .before in
     let a = at .before .before .before .args in
     c .no-body .ensures
-    ∙ ap asBody (onward-refused (list at) (tested (a .table) (a .k) (a .v) (a .s)) (rows-refused (list at) (list-is at) (known .status .given .1)))
+    ∙ ap recordField (onward-refused (list at) (tested (a .table) (a .k) (a .v) (a .s)) (rows-refused (list at) (list-is at) (known .status .given .1)))
 
 enum-told : tie.Need-enum-told
 enum-told c = search needs
@@ -78,11 +78,11 @@ module _ (c : tie.After-open-job) where
 
   -- the call comes to what the test of the list and the job says
   passed : {next : Reading Record} → next ≡ checked (rule 9 (not (read .kept && isSound job)) ∷ []) (answered (field (ofJob job) (read .next)))
-      → let a = start .args in asBody next ≡ asBody (countsAt (a .table) (a .k) (a .v) (a .s) (a .bytes .now) (a .at))
+      → let a = start .args in recordField next ≡ recordField (countsAt (a .table) (a .k) (a .v) (a .s) (a .bytes .now) (a .at))
   passed e =
       let a = start .args in
       let at = c .before .before .before .before in
-      ap asBody (e ∙ onward-read (list at) (tested (a .table) (a .k) (a .v) (a .s)) (rows-done (list at) (list-is at) (c .before .before .enum-told .given .1)))
+      ap recordField (e ∙ onward-read (list at) (tested (a .table) (a .k) (a .v) (a .s)) (rows-done (list at) (list-is at) (c .before .before .enum-told .given .1)))
 
 returns-2 : tie.Need-returns-2
 returns-2 c =

@@ -10,7 +10,7 @@ use Rattle.codec.specs.Field.{Reading, field}
 use Rattle.codec.specs.VectorField.{vectorAt}
 use Rattle.reading.proofs.FieldFacts.{vector-refused, vector-done}
 use Rattle.records.specs.Record.{Record, ofGate, vectorGate}
-use Rattle.records.specs.Calls.{asBody}
+use Rattle.records.specs.Calls.{recordField}
 use Rattle.codec.proofs.FieldLaws.{onward-refused, onward-read}
 use Rattle.records.proofs.read.read_gate.Statement.{statement}
 use Rattle.records.proofs.read.read_gate.Tie as tie
@@ -27,7 +27,7 @@ returns c =
     let known = c .before .before in
     let at = known .before .before in
     c .no-body .ensures
-    ∙ ap asBody (onward-refused (read at) (made (at .before .before .args .table)) (vector-refused (read at) (at .read-vector .ensures) (known .status .given .1)))
+    ∙ ap recordField (onward-refused (read at) (made (at .before .before .args .table)) (vector-refused (read at) (at .read-vector .ensures) (known .status .given .1)))
 
 enum-told : tie.Need-enum-told
 enum-told c = search needs
@@ -39,7 +39,7 @@ returns-2 c =
     let at = told .before .before in
     (λ i. let r = zeros .bare .ensures i in
     record { read = record { kind = r .kind; table = r .table; gate = c .vector-gate .ensures i; witness = r .witness; job = r .job }; next = at .read-vector .result .next })
-    ∙ ap asBody (onward-read (read at) (made (at .before .before .args .table)) (vector-done (read at) (at .read-vector .ensures) (told .enum-told .given .1)))
+    ∙ ap recordField (onward-read (read at) (made (at .before .before .args .table)) (vector-done (read at) (at .read-vector .ensures) (told .enum-told .given .1)))
 
 pub read-gate-spec : {M : Type 1} → statement M
 read-gate-spec =

@@ -12,7 +12,7 @@ use Rattle.codec.specs.Number.{numberAt}
 use Rattle.codec.specs.VectorField.{vectorAt}
 use Rattle.reading.proofs.FieldFacts.{number-refused, number-done, vector-refused, vector-done}
 use Rattle.records.specs.Record.{Record, countsAt, jobAt}
-use Rattle.records.specs.Calls.{asBody}
+use Rattle.records.specs.Calls.{recordField}
 use Rattle.codec.proofs.FieldLaws.{onward-refused, onward-read}
 use Rattle.records.proofs.read.read_job.Statement.{statement}
 use Rattle.records.proofs.read.read_job.Tie as tie
@@ -42,7 +42,7 @@ returns c =
     let a = at .before .before .args in
     let s = a .bytes .now in
     c .no-body .ensures
-    ∙ ap asBody (onward-refused (numberAt s (a .at)) (current (a .table) s) (number-refused (numberAt s (a .at)) (at .read-number .ensures) (known .status .given .1)))
+    ∙ ap recordField (onward-refused (numberAt s (a .at)) (current (a .table) s) (number-refused (numberAt s (a .at)) (at .read-number .ensures) (known .status .given .1)))
 
 enum-told : tie.Need-enum-told
 enum-told c = search needs
@@ -63,10 +63,10 @@ module _ (c : tie.After-enum-told) where
   abbrev p : ℕ
   p = at-number .read-number .result .next
 
-  past-number : {next : Reading Record} → next ≡ current table bytes k p → asBody next ≡ asBody (jobAt table bytes (at-number .before .before .args .at))
+  past-number : {next : Reading Record} → next ≡ current table bytes k p → recordField next ≡ recordField (jobAt table bytes (at-number .before .before .args .at))
   past-number e =
       let at = at-number .before .before .args .at in
-      ap asBody (e ∙ onward-read (numberAt bytes at) (current table bytes) (number-done (numberAt bytes at) (at-number .read-number .ensures) (c .enum-told .given .1)))
+      ap recordField (e ∙ onward-read (numberAt bytes at) (current table bytes) (number-done (numberAt bytes at) (at-number .read-number .ensures) (c .enum-told .given .1)))
 
 -- ---- v
 
@@ -96,7 +96,7 @@ module _ (c : tie.After-enum-told2) where
   q = at-current .read-vector .result .next
 
   past-current : {next : Reading Record} → next ≡ copied (table told) (bytes told) (k told) v q
-      → asBody next ≡ asBody (jobAt (table told) (bytes told) (at-number told .before .before .args .at))
+      → recordField next ≡ recordField (jobAt (table told) (bytes told) (at-number told .before .before .args .at))
   past-current e =
       let read = vectorAt false (table told .n) (bytes told) (p told) in
       past-number told (e ∙ onward-read read (copied (table told) (bytes told) (k told)) (vector-done read (at-current .read-vector .ensures) (c .enum-told2 .given .1)))

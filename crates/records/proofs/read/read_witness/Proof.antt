@@ -13,7 +13,7 @@ use Rattle.codec.specs.RowList.{RowList, rowListAt}
 use Rattle.rowlists.specs.Fields.{rowsField}
 use Rattle.rowlists.proofs.FieldFacts.{rows-refused, rows-done}
 use Rattle.records.specs.Record.{Record, ofWitness}
-use Rattle.records.specs.Calls.{asBody}
+use Rattle.records.specs.Calls.{recordField}
 use Rattle.codec.proofs.FieldLaws.{onward-refused, onward-read}
 use Rattle.records.proofs.read.read_witness.Statement.{statement}
 use Rattle.records.proofs.read.read_witness.Tie as tie
@@ -41,7 +41,7 @@ returns : tie.Need-returns
 returns c =
     let known = c .before .before in
     let at = known .before .before in
-    c .no-body .ensures ∙ ap asBody (onward-refused (list at) (made (table at)) (rows-refused (list at) (list-is at) (known .status .given .1)))
+    c .no-body .ensures ∙ ap recordField (onward-refused (list at) (made (table at)) (rows-refused (list at) (list-is at) (known .status .given .1)))
 
 enum-told : tie.Need-enum-told
 enum-told c = search needs
@@ -55,7 +55,7 @@ returns-2 c =
       read = record { kind = r .kind; table = r .table; gate = r .gate; witness = record { counts = at .read-rows .result .counts }; job = r .job };
       next = at .read-rows .result .next;
     })
-    ∙ ap asBody (onward-read (list at) (made (table at)) (rows-done (list at) (list-is at) (told .enum-told .given .1)))
+    ∙ ap recordField (onward-read (list at) (made (table at)) (rows-done (list at) (list-is at) (told .enum-told .given .1)))
 
 pub read-witness-spec : {M : Type 1} → statement M
 read-witness-spec =

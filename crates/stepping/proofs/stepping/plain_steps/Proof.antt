@@ -1,5 +1,5 @@
 -- `stepping::stepping::plain_steps` meets its contract. The loop's invariant: its state stands where the machine does after `made` steps
--- (`Stands` of StandsLaws), `next` is what the search by its vector found, and `made` is at most the budget. The measure is what is
+-- (`Unsettled` of UnsettledLaws), `next` is what the search by its vector found, and `made` is at most the budget. The measure is what is
 -- left of the budget. Assumes nothing.
 use mathlib.Core.Path.{_≡_, sym, _∙_, ap}
 use mathlib.Core.Logic.{⊎-elim}
@@ -22,13 +22,13 @@ use Rattle.types.specs.declared.state.State.{State}
 use Rattle.state.specs.Machine.{run}
 use Rattle.state.specs.Sound.{cap}
 use Rattle.state.proofs.MachineLaws.{marked-power, marked-other}
-use Rattle.chunks.proofs.StandsLaws.{Stands, stands-start, stands-found, stands-row, stands-open, stands-looped, moved, stands-next, Bounded, stands-bounded}
+use Rattle.chunks.proofs.UnsettledLaws.{Unsettled, unsettled-start, unsettled-found, unsettled-row, unsettled-open, unsettled-looped, correctedTo, unsettled-next, Bounded, unsettled-bounded}
 use Rattle.stepping.proofs.stepping.plain_steps.Statement.{statement}
 use Rattle.stepping.proofs.stepping.plain_steps.Tie as tie
 
 -- the invariant: `made` of the budget's steps are made from `start`
 record Turned (t : Table) (start : State) (budget made : ℕ) (x : State) (next : Lowest) : Type 0 where
-  stands : Stands t start made x
+  unsettled : Unsettled t start made x
   search : next ≡ lowestOf (failing (functionOf t) (x .v))
   within : made ≤ budget
 
@@ -44,12 +44,12 @@ first-failing-requires : tie.Need-first-failing-requires Inv-loop μ-loop
 first-failing-requires c κs =
     let listed = c .before .before .before in
     let p = listed .before .pre in
-    (p .0, stands-bounded (p .0) (p .1) (omega arith) (stands-start (p .1) (p .2)) .ranged, listed .row-values .ensures)
+    (p .0, unsettled-bounded (p .0) (p .1) (omega arith) (unsettled-start (p .1) (p .2)) .ranged, listed .row-values .ensures)
 
 loop-holds : tie.Need-loop-holds Inv-loop μ-loop
 loop-holds c =
     let p = c .before .before .before .before .before .pre in
-    record { stands = stands-start (p .1) (p .2); search = c .first-failing .ensures; within = omega arith }
+    record { unsettled = unsettled-start (p .1) (p .2); search = c .first-failing .ensures; within = omega arith }
 
 -- ---- at the loop's head
 
@@ -71,7 +71,7 @@ bounded : (c : tie.At-loop Inv-loop μ-loop) → Bounded (table c) (c .loop .j)
 bounded c =
     let p = entry c .pre in
     let few : state c .k + c .loop .made ≤ cap = omega (arith, p .3, c .loop .inv .within) in
-    stands-bounded (p .0) (p .1) few (c .loop .inv .stands)
+    unsettled-bounded (p .0) (p .1) few (c .loop .inv .unsettled)
 
 enum-told : tie.Need-enum-told Inv-loop μ-loop
 enum-told c = search needs
@@ -82,7 +82,7 @@ with-stage-requires c κs = search needs
 returns : tie.Need-returns Inv-loop μ-loop
 returns c =
     let inv = c .before .before .before .before .loop .inv in
-    c .with-stage .ensures ∙ stands-found (inv .stands) _ (inv .within) (sym (inv .search) ∙ c .before .enum-told .given .1)
+    c .with-stage .ensures ∙ unsettled-found (inv .unsettled) _ (inv .within) (sym (inv .search) ∙ c .before .enum-told .given .1)
 
 -- ---- the row of a pass
 
@@ -97,7 +97,7 @@ row-found c = sym (head c .loop .inv .search) ∙ c .before .next .given .1
 
 -- it is one of the 256
 row-below : (c : tie.After-known-told Inv-loop μ-loop) → row c < 256
-row-below c = omega (arith, stands-row (head c .loop .inv .stands) (row-found c), rows-le (entry (head c) .pre .0))
+row-below c = omega (arith, unsettled-row (head c .loop .inv .unsettled) (row-found c), rows-le (entry (head c) .pre .0))
 
 -- `values` has its value
 row-value : (c : tie.After-known-told Inv-loop μ-loop) → getD (listed (head c) .row-values .result) (row c) false ≡ value (table (head c)) (row c)
@@ -146,19 +146,19 @@ returns-2 c =
     let at = told same in
     let more = at .before .before .before .loop-test .taken in
     c .with-stage2 .ensures
-    ∙ stands-looped (head at .loop .inv .stands) (row-found at) (row-value at) (corrected same .corrected-by .ensures) _ more
+    ∙ unsettled-looped (head at .loop .inv .unsettled) (row-found at) (row-value at) (corrected same .corrected-by .ensures) _ more
     (sym (same .same-vector .ensures) ∙ c .before .if1 .taken)
 
 -- past step 4 the state stands at the next step
-stands-on : (c : tie.Joined2 Inv-loop μ-loop)
+unsettled-on : (c : tie.Joined2 Inv-loop μ-loop)
     → let at = head (told (c .before .before .before)) in
-    Stands (table at) (state at) (at .loop .made + 1) (c .if2 .j)
-stands-on c =
+    Unsettled (table at) (state at) (at .loop .made + 1) (c .if2 .j)
+unsettled-on c =
     let same = c .before .before .before in
     let at = told same in
-    let x = moved (row at) (corrected same .corrected-by .result) (head at .loop .j) in
+    let x = correctedTo (row at) (corrected same .corrected-by .result) (head at .loop .j) in
     let power = c .before .top-power .ensures in
-    stands-next (head at .loop .inv .stands) (row-found at) (row-value at) (corrected same .corrected-by .ensures)
+    unsettled-next (head at .loop .inv .unsettled) (row-found at) (row-value at) (corrected same .corrected-by .ensures)
     (sym (same .same-vector .ensures) ∙ c .before .before .if1 .left)
     (⊎-elim (λ w. w .2 ∙ sym (marked-power x (eq-eqb _ _ (sym power ∙ w .0 .taken))))
     (λ w. w .1 ∙ sym (marked-other x (ne-eqb _ _ (λ e. w .0 .left (power ∙ e)))))
@@ -170,10 +170,10 @@ first-failing-requires-2 c κs =
     let at = told (on .before .before .before) in
     let p = entry (head at) .pre in
     let few : state (head at) .k + (head at .loop .made + 1) ≤ cap = omega (arith, p .3, at .before .before .before .loop-test .taken) in
-    (p .0, stands-bounded (p .0) (p .1) few (stands-on on) .ranged, listed (head at) .row-values .ensures)
+    (p .0, unsettled-bounded (p .0) (p .1) few (unsettled-on on) .ranged, listed (head at) .row-values .ensures)
 
 loop-again : tie.Need-loop-again Inv-loop μ-loop
-loop-again c = record { stands = stands-on (c .before .before .before .before); search = c .first-failing2 .ensures; within = omega arith }
+loop-again c = record { unsettled = unsettled-on (c .before .before .before .before); search = c .first-failing2 .ensures; within = omega arith }
 
 -- ---- after the loop
 
@@ -181,12 +181,12 @@ returns-3 : tie.Need-returns-3 Inv-loop μ-loop
 returns-3 c =
     let at = c .before .before .before in
     let inv = at .loop .inv in
-    stands-open (inv .stands) (sym (inv .search) ∙ c .enum-told2 .given .1) ∙ ap (λ (m : ℕ). run (functionOf (table at)) m (state at)) (omega arith)
+    unsettled-open (inv .unsettled) (sym (inv .search) ∙ c .enum-told2 .given .1) ∙ ap (λ (m : ℕ). run (functionOf (table at)) m (state at)) (omega arith)
 
 returns-4 : tie.Need-returns-4 Inv-loop μ-loop
 returns-4 c =
     let inv = c .before .before .before .before .loop .inv in
-    c .with-stage3 .ensures ∙ stands-found (inv .stands) _ (inv .within) (sym (inv .search) ∙ c .before .enum-told3 .given .1)
+    c .with-stage3 .ensures ∙ unsettled-found (inv .unsettled) _ (inv .within) (sym (inv .search) ∙ c .before .enum-told3 .given .1)
 
 pub plain-steps-spec : {M : Type 1} → statement M
 plain-steps-spec =

@@ -10,7 +10,7 @@ use borrow.Author.Needs.{needs}
 use Rattle.numbers.proofs.Int.{back}
 use Rattle.types.specs.declared.table.Table.{Table}
 use Rattle.cell.specs.Refusal.{Answered}
-use Rattle.results.specs.Result.{fitted}
+use Rattle.writers.specs.Calls.{fitted}
 use Rattle.results.proofs.ResultLaws.{returned-as, returned-refused}
 use Rattle.inputs.specs.Inputs.{askedBytes}
 use Rattle.threshold.proofs.TakenLaws.{no-table, with-table, table-taken}

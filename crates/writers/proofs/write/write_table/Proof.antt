@@ -1,8 +1,11 @@
 -- `writers::write::write_table` meets its contract: the law of a call that writes, at a table. Assumes nothing.
+use mathlib.Core.Path.{_≡_, ap}
 use native.Mathlib.Omega.{arith}
+use lib.ListN.{length}
 use borrow.Author.Needs.{needs}
 use Rattle.cell.proofs.TableChecked.{kept-inputs}
 use Rattle.records.specs.Record.{ofTable, bodyBytes}
+use Rattle.bodies.proofs.BodyLaws.{table-body}
 use Rattle.writers.proofs.WriteLaws.{Passed, write-refused, write-passed, size-most, write-short, body-room, write-body}
 use Rattle.writers.proofs.write.write_table.Statement.{statement}
 use Rattle.writers.proofs.write.write_table.Tie as tie
@@ -19,28 +22,31 @@ passed c = let a = c .before .before .before .before .args in write-passed (ofTa
 table-length-requires : tie.Need-table-length-requires
 table-length-requires c κs = kept-inputs (c .before .before .before .before .args .table) (passed c .kept)
 
+-- the body is the table
+long : (c : tie.After-table-length) → c .table-length .result ≡ length (bodyBytes (ofTable (c .before .before .before .before .before .args .table)))
+long c = rw (table-body (c .before .before .before .before .before .args .table)) (c .table-length .ensures)
+
 add-if1 : tie.Need-add-if1
-unfolding bodyBytes
-add-if1 c = omega (arith, size-most (passed (c .before)) (c .table-length .ensures))
+add-if1 c = omega (arith, size-most (passed (c .before)) (long c))
 
 returns-2 : tie.Need-returns-2
-unfolding bodyBytes
-returns-2 c = write-short (passed (c .before .before)) (c .before .table-length .ensures) (c .if1 .taken)
+returns-2 c = write-short (passed (c .before .before)) (long (c .before)) (c .if1 .taken)
 
 put-table-requires : tie.Need-put-table-requires
-unfolding bodyBytes
 put-table-requires c κs =
     let put = c .before .before .before in
     let fits = put .before .before in
-    (table-length-requires (fits .before .before) (fits .before .table-length .lifetimes), body-room (passed (fits .before .before)) (fits .before .table-length .ensures) (fits .if1 .left) (put .put-kind .ensures))
+    let table = fits .before .before .before .before .before .before .args .table in
+    let room = body-room (passed (fits .before .before)) (long (fits .before)) (fits .if1 .left) (put .put-kind .ensures) in
+    (table-length-requires (fits .before .before) (fits .before .table-length .lifetimes), omega (arith, room, ap length (table-body table)))
 
 returns-3 : tie.Need-returns-3
-unfolding bodyBytes
 returns-3 c =
     let wrote = c .before .before in
     let put = wrote .before .before .before .before in
     let fits = put .before .before in
-    write-body (passed (fits .before .before)) (fits .before .table-length .ensures) (fits .if1 .left) (put .put-kind .ensures) (wrote .put-table .ensures)
+    let table = fits .before .before .before .before .before .before .args .table in
+    write-body (passed (fits .before .before)) (long (fits .before)) (fits .if1 .left) (put .put-kind .ensures) (rw (table-body table) (wrote .put-table .ensures))
 
 pub write-table-spec : {M : Type 1} → statement M
 write-table-spec =

@@ -1,11 +1,10 @@
 -- `put::put_bits` meets its contract. The loop's invariant: the first i bytes stand from the position on, and the buffer is as long as it
 -- was. The measure is the number of bytes left. Assumes nothing.
 use mathlib.Core.Path.{_≡_, _∙_}
-use mathlib.Core.List.{List}
-use Prim.Native.Nat.{ℕ, _+_, _-_, _≤_}
+use Prim.Native.Nat.{_+_, _-_, _≤_}
 use native.Mathlib.Numerals.{add-one}
 use native.Mathlib.Omega.{arith}
-use lib.ListN.{length, take, length-set}
+use lib.ListN.{length, take}
 use lib.Seq.{length-take-le, paste, paste-zero, paste-suc}
 use borrow.Author.Needs.{needs}
 use Rattle.codec.proofs.WrittenLaws.{written-copy}

@@ -1,16 +1,14 @@
 -- `put::put_table` meets its contract: n, and the bytes of its bits behind it. Assumes nothing.
-use mathlib.Core.Path.{_≡_, sym, _∙_, ap}
+use mathlib.Core.Path.{_≡_}
 use mathlib.Core.List.{List, _++_}
-use Prim.Native.Nat.{ℕ, _+_, _≤_}
+use Prim.Native.Nat.{ℕ, _+_}
 use native.Mathlib.Omega.{arith}
 use lib.ListN.{length, take, length-append}
 use borrow.Author.Needs.{needs}
-use Rattle.types.specs.declared.table.Table.{Table}
 use Rattle.table.specs.Table.{byteCount}
 use Rattle.table.proofs.TableLaws.{bytes-le}
 use Rattle.codec.specs.Number.{numberBytes}
-use Rattle.codec.specs.TableField.{tableBytes}
-use Rattle.codec.specs.Written.{Room, Put}
+use Rattle.codec.specs.Written.{Room}
 use Rattle.codec.proofs.WrittenLaws.{written-room, written-next}
 use Rattle.writing.proofs.TableParts.{table-bytes}
 use Rattle.writing.proofs.put.put_table.Statement.{statement}

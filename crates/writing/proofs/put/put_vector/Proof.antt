@@ -14,7 +14,7 @@ use borrow.Author.Needs.{needs}
 use Rattle.numbers.proofs.Int.{back}
 use Rattle.table.specs.Gate.{weightLimit, inRange}
 use Rattle.types.specs.declared.vector.Vector.{Vector}
-use Rattle.machine.proofs.RangeLaws.{within-correct, in-range-correct, in-range-at}
+use Rattle.function.proofs.RangeLaws.{within-correct, in-range-correct, in-range-at}
 use Rattle.codec.specs.Number.{numberBytes, signedCode}
 use Rattle.codec.specs.VectorField.{vectorBytes}
 use Rattle.codec.proofs.NumberLaws.{signed-small}

@@ -1,9 +1,9 @@
--- `vector::past_is_idle` is safe and ends. Nothing has to hold from pass to pass; the measure is the number of places left.
+-- `function::past_is_idle` is safe and ends. Nothing has to hold from pass to pass; the measure is the number of places left.
 -- Assumes nothing.
 use Prim.Native.Nat.{_-_}
 use borrow.Author.Needs.{needs}
-use Rattle.papers_main.proofs.vector.past_is_idle.Statement.{statement}
-use Rattle.papers_main.proofs.vector.past_is_idle.Tie as tie
+use Rattle.papers_main.proofs.function.past_is_idle.Statement.{statement}
+use Rattle.papers_main.proofs.function.past_is_idle.Tie as tie
 
 abbrev Inv-loop : tie.InvT-loop
 Inv-loop n q places place₀ place = Unit {0}

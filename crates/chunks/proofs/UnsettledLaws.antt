@@ -33,16 +33,16 @@ use Rattle.state.proofs.SoundBounds.{in-range-search, unit-current, unit-copied
 use Rattle.state.proofs.Soundness.{run-sound-from}
 use Rattle.function.specs.Function.{level}
 
--- ---- where the loop stands
+-- ---- the loop's state
 
 -- x is the machine's state after m steps from `start`, but for step 5: its stage is still open
-pub record Stands (t : Table) (start : State) (m : ℕ) (x : State) : Type 0 where
+pub record Unsettled (t : Table) (start : State) (m : ℕ) (x : State) : Type 0 where
   pub stage : x .stage ≡ Stage′.Open
   pub machine : settled (functionOf t) x ≡ run (functionOf t) m start
 
--- a sound open state stands at its start
-pub stands-start : {t : Table} {x : State} → Sound (functionOf t) x → x .stage ≡ Stage′.Open → Stands t x 0 x
-stands-start {t} {x} s e =
+-- a sound open state is so at its start
+pub unsettled-start : {t : Table} {x : State} → Sound (functionOf t) x → x .stage ≡ Stage′.Open → Unsettled t x 0 x
+unsettled-start {t} {x} s e =
     let fails = sound-in s Stage′.Open e .2 in
     record { stage = e; machine = settled-open (functionOf t) x (fails .0) (fails .1) ∙ sym (run-zero (functionOf t) x) }
 
@@ -55,9 +55,9 @@ marked-keeps x = by (eqb (highest (x .k)) (x .k))
     by true = refl
     by false = refl
 
--- the state after steps 1 and 2 by row r, with v the corrected vector
-abbrev pub moved : ℕ → Vector → State → State
-moved r v x = record {
+-- the state after steps 1 and 2 by row r, corrected to the vector v
+abbrev pub correctedTo : ℕ → Vector → State → State
+correctedTo r v x = record {
   k = x .k + 1;
   v = v;
   mark = x .mark;
@@ -66,10 +66,10 @@ moved r v x = record {
   stage = x .stage;
 }
 
-module _ {t : Table} {start : State} {m : ℕ} {x : State} (s : Stands t start m x) where
+module _ {t : Table} {start : State} {m : ℕ} {x : State} (s : Unsettled t start m x) where
   -- where no row fails, the state is found, and stays so
-  pub stands-found : (budget : ℕ) → m ≤ budget → lowestOf (failing (functionOf t) (x .v)) ≡ Nowhere → withStage Stage′.Found x ≡ run (functionOf t) budget start
-  stands-found budget h f =
+  pub unsettled-found : (budget : ℕ) → m ≤ budget → lowestOf (failing (functionOf t) (x .v)) ≡ Nowhere → withStage Stage′.Found x ≡ run (functionOf t) budget start
+  unsettled-found budget h f =
       let passes = lowest-none (failing (functionOf t) (x .v)) f in
       run-stays (functionOf t) start (withStage Stage′.Found x) m budget h (sym (settled-found (functionOf t) x passes) ∙ s .machine) found-ended
 
@@ -78,22 +78,22 @@ module _ {t : Table} {start : State} {m : ℕ} {x : State} (s : Stands t start m
     fails = lowest-some (failing (functionOf t) (x .v)) r f
 
     -- a row that is found is a row of the table
-    pub stands-row : r < rows t
-    stands-row = omega (arith, failing-some (functionOf t) (x .v) r (lowest-some (failing (functionOf t) (x .v)) r f) .inside)
+    pub unsettled-row : r < rows t
+    unsettled-row = omega (arith, failing-some (functionOf t) (x .v) r (lowest-some (failing (functionOf t) (x .v)) r f) .inside)
 
     -- the state is then the machine's
-    pub stands-open : x ≡ run (functionOf t) m start
-    stands-open = sym (settled-open (functionOf t) x r fails) ∙ s .machine
+    pub unsettled-open : x ≡ run (functionOf t) m start
+    unsettled-open = sym (settled-open (functionOf t) x r fails) ∙ s .machine
 
     -- v is the vector after the correction by the row
     module _ {y : Bool} {v : Vector} (e : y ≡ value t r) (w : v ≡ correctedBy y (level 2 r) (x .v)) where
       -- the machine's next step is made of the state with that vector
-      stands-step : closed (functionOf t) (moved r v x) ≡ run (functionOf t) (m + 1) start
-      stands-step =
-          ap (closed (functionOf t)) (λ i. moved r (corrects i) x)
+      unsettled-step : closed (functionOf t) (correctedTo r v x) ≡ run (functionOf t) (m + 1) start
+      unsettled-step =
+          ap (closed (functionOf t)) (λ i. correctedTo r (corrects i) x)
           ∙ sym (ap (closed (functionOf t)) (corrected-is (functionOf t) r x))
           ∙ sym (step-open (functionOf t) x r (s .stage) fails)
-          ∙ ap (step (functionOf t)) stands-open
+          ∙ ap (step (functionOf t)) unsettled-open
           ∙ sym (run-suc (functionOf t) m start)
           ∙ ap (λ (n : ℕ). run (functionOf t) n start) (sym (add-one m))
         where
@@ -101,17 +101,17 @@ module _ {t : Table} {start : State} {m : ℕ} {x : State} (s : Stands t start m
           corrects = w ∙ ap (λ (b : Bool). correctedBy b (level 2 r) (x .v)) e
 
       -- back at s the state is looped, and stays so
-      pub stands-looped : (budget : ℕ) → m < budget → sameVector v (x .s) ≡ true → withStage Stage′.Looped (moved r v x) ≡ run (functionOf t) budget start
-      stands-looped budget h same =
-          run-stays (functionOf t) start (withStage Stage′.Looped (moved r v x)) (m + 1) budget (omega arith)
-          (sym (closed-looped (functionOf t) (moved r v x) same) ∙ stands-step) looped-ended
+      pub unsettled-looped : (budget : ℕ) → m < budget → sameVector v (x .s) ≡ true → withStage Stage′.Looped (correctedTo r v x) ≡ run (functionOf t) budget start
+      unsettled-looped budget h same =
+          run-stays (functionOf t) start (withStage Stage′.Looped (correctedTo r v x)) (m + 1) budget (omega arith)
+          (sym (closed-looped (functionOf t) (correctedTo r v x) same) ∙ unsettled-step) looped-ended
 
-      -- elsewhere, after step 4, the loop stands at the next step
-      pub stands-next : {after : State} → sameVector v (x .s) ≡ false → after ≡ marked (moved r v x) → Stands t start (m + 1) after
-      stands-next {after} differs e =
+      -- elsewhere, after step 4, it is so at the next step
+      pub unsettled-next : {after : State} → sameVector v (x .s) ≡ false → after ≡ marked (correctedTo r v x) → Unsettled t start (m + 1) after
+      unsettled-next {after} differs e =
           record {
-            stage = ap (λ (i : State). i .stage) e ∙ marked-keeps (moved r v x) ∙ s .stage;
-            machine = ap (settled (functionOf t)) e ∙ sym (closed-on (functionOf t) (moved r v x) differs) ∙ stands-step;
+            stage = ap (λ (i : State). i .stage) e ∙ marked-keeps (correctedTo r v x) ∙ s .stage;
+            machine = ap (settled (functionOf t)) e ∙ sym (closed-on (functionOf t) (correctedTo r v x) differs) ∙ unsettled-step;
           }
 
 -- ---- the ranges of its state
@@ -138,9 +138,9 @@ sound-bounded {t} stage x n s = record {
 }
 
 -- the loop's state has those bounds, since the machine's is sound
-pub stands-bounded : {t : Table} {start : State} {m : ℕ} {x : State} → t .n ≤ 8 → Sound (functionOf t) start → start .k + m ≤ cap → Stands t start m x
+pub unsettled-bounded : {t : Table} {start : State} {m : ℕ} {x : State} → t .n ≤ 8 → Sound (functionOf t) start → start .k + m ≤ cap → Unsettled t start m x
     → Bounded t x
-stands-bounded {t} {start} {m} {x} n sound l s = by (failing (functionOf t) (x .v)) refl
+unsettled-bounded {t} {start} {m} {x} n sound l s = by (failing (functionOf t) (x .v)) refl
   where
     machine : Sound (functionOf t) (settled (functionOf t) x)
     machine = subst (Sound (functionOf t)) (sym (s .machine)) (run-sound-from (functionOf t) start (table-fits t n) sound m l)

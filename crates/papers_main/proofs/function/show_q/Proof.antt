@@ -1,25 +1,26 @@
--- `vector::show_kinds` is safe and ends. Nothing has to hold from pass to pass; the measure is the number of places left.
+-- `function::show_q` is safe and ends. Nothing has to hold from pass to pass; the measure is the number of places left.
 -- Assumes nothing.
 use Prim.Native.Nat.{_-_}
 use borrow.Author.Needs.{needs}
-use Rattle.papers_main.proofs.vector.show_kinds.Statement.{statement}
-use Rattle.papers_main.proofs.vector.show_kinds.Tie as tie
+use Rattle.papers_main.proofs.function.show_q.Statement.{statement}
+use Rattle.papers_main.proofs.function.show_q.Tie as tie
 
 abbrev Inv-loop : tie.InvT-loop
-Inv-loop n places place₀ place = Unit {0}
+Inv-loop n q place₀ place = Unit {0}
 
 abbrev μ-loop : tie.MeasureT-loop
-μ-loop n places place₀ place = 8 - place
+μ-loop n q place₀ place = 8 - place
 
 returns : tie.Need-returns Inv-loop μ-loop
 returns c = search needs
 
-pub show-kinds-spec : {M : Type 1} → statement M
-show-kinds-spec =
+pub show-q-spec : {M : Type 1} → statement M
+show-q-spec =
     tie.close
     (tie.spec
     Inv-loop
     μ-loop
+    (λ c. search needs)
     (λ c. search needs)
     (λ c. search needs)
     (λ c κs. search needs)

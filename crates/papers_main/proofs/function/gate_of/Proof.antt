@@ -1,9 +1,9 @@
--- `vector::gate_of` is safe and ends. Nothing has to hold from pass to pass; the measure is the number of places left.
+-- `function::gate_of` is safe and ends. Nothing has to hold from pass to pass; the measure is the number of places left.
 -- Assumes nothing.
 use Prim.Native.Nat.{_-_}
 use borrow.Author.Needs.{needs}
-use Rattle.papers_main.proofs.vector.gate_of.Statement.{statement}
-use Rattle.papers_main.proofs.vector.gate_of.Tie as tie
+use Rattle.papers_main.proofs.function.gate_of.Statement.{statement}
+use Rattle.papers_main.proofs.function.gate_of.Tie as tie
 
 abbrev Inv-loop : tie.InvT-loop
 Inv-loop n numbers weights₀ place₀ weights place = Unit {0}

@@ -1,4 +1,4 @@
-// One vector: its job carried on by one call, by a second one where it is still open, and by many small ones.
+// One function: its job carried on by one call, by a second one where it is still open, and by many small ones.
 use crate::call::show_call;
 use crate::split::show_split;
 use job::job::Job;
@@ -12,7 +12,7 @@ pub struct Outcome {
     pub k: u32,
 }
 
-// Prints the vector's line, or its two.
+// Prints the function's line, or its two.
 pub fn run(line: &[u8]) -> Outcome {
     let table = table_of(line);
     show::word(word(line, 0));

@@ -1,4 +1,4 @@
-// What the checked calls say of one vector: its gate or witness, as it is and spoiled, Chow's parameters and the kinds of its inputs.
+// What the checked calls say of one function: its gate or witness, as it is and spoiled, Chow's parameters and the kinds of its inputs.
 use cell::checker::check_gate;
 use cell::checker::check_witness;
 use cell::chow::chow_parameters;
@@ -18,7 +18,7 @@ use types::inputs::Place;
 use types::table::Table;
 use types::witness::Witness;
 
-// Prints the vector's line, and returns whether the places past n are idle and 0.
+// Prints the function's line, and returns whether the places past n are idle and 0.
 pub fn run(line: &[u8]) -> bool {
     let table = table_of(line);
     show::word(word(line, 0));

@@ -1,9 +1,9 @@
--- `vector::agreeing_rows` is safe and ends. Nothing has to hold from pass to pass; the measure is the number of rows left.
+-- `function::agreeing_rows` is safe and ends. Nothing has to hold from pass to pass; the measure is the number of rows left.
 -- Assumes nothing.
 use Prim.Native.Nat.{_-_}
 use borrow.Author.Needs.{needs}
-use Rattle.papers_main.proofs.vector.agreeing_rows.Statement.{statement}
-use Rattle.papers_main.proofs.vector.agreeing_rows.Tie as tie
+use Rattle.papers_main.proofs.function.agreeing_rows.Statement.{statement}
+use Rattle.papers_main.proofs.function.agreeing_rows.Tie as tie
 
 abbrev Inv-loop : tie.InvT-loop
 Inv-loop table gate row₀ row = Unit {0}

@@ -1,2 +1,0 @@
--- the fields of a job before its row list
-pub mod Body
