@@ -1,10 +1,10 @@
 // A chunk of steps in the fast form: the vectors are sums in places of 16 bits, and become vectors again at its end.
-use crate::core::Core;
-use crate::core::core_with;
 use correction::correction::correct;
 use lanes::sums::same_sums;
 use lanes::sums::sums_of;
 use lanes::sums::vector_of;
+use machine::core::Core;
+use machine::core::core_with;
 use machine::power::top_power;
 use search::keys::store_rows;
 use search::search::lowest;
@@ -20,7 +20,7 @@ ghost use Rattle.lanes.specs.Sums.{magnitude};
 ghost use Rattle.correction.specs.Steps.{stepAt};
 ghost use Rattle.state.specs.Machine.{run};
 ghost use Rattle.state.specs.Sound.{cap, Sound};
-ghost use Rattle.chunks.specs.Core.{stateOf};
+ghost use Rattle.machine.specs.Core.{stateOf};
 ghost use Rattle.table.specs.Table.{functionOf};
 
 // The most steps of a chunk.

@@ -2,6 +2,7 @@
 use cell::refusal::Status;
 use cell::refusal::table_status;
 use correction::steps::step_table;
+use machine::core::core_of;
 use soundness::sound::CAP;
 use soundness::sound::is_sound;
 use stepping::decided::CALL_BUDGET;
@@ -59,7 +60,8 @@ pub fn job_status(job: Job) -> Status
     if let Status::Refused(number) = status {
         return Status::Refused(number);
     }
-    if !is_sound(table, job.state) {
+    let state = job.state;
+    if !is_sound(table, core_of(state), &state.counts) {
         return Status::Refused(9);
     }
     Status::Done

@@ -53,8 +53,8 @@ fn shown(job: Job, shown: Shown) {
     let counts = job.state.counts;
     print::part(
         b" counts",
-        same_counts(shown_counts, [0u32; 256]),
-        same_counts(shown_counts, counts),
+        same_counts(&shown_counts, &[0u32; 256]),
+        same_counts(&shown_counts, &counts),
     );
 }
 

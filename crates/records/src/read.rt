@@ -1,6 +1,8 @@
 // What follows a record's kind byte, read from a slice and a position, and the end.
 use cell::refusal::Status;
 use job::job::Job;
+use machine::core::Core;
+use machine::core::state_of;
 use machine::power::top_power;
 use machine::vector::vector_gate;
 use reading::kind::KindField;
@@ -19,10 +21,11 @@ use types::vector::Vector;
 use types::witness::Witness;
 ghost use mathlib.Core.Path.{_≡_};
 ghost use Prim.Native.Nat.{_≤_};
+ghost use Rattle.numbers.specs.Power.{highest};
 ghost use Rattle.table.specs.Table.{rowsOf};
 ghost use Rattle.cell.specs.Refusal.{refused};
 ghost use Rattle.job.specs.Calls.{noGate, noWitness};
-ghost use Rattle.records.specs.Record.{gateAt, witnessAt, openJob, countsAt, jobAt};
+ghost use Rattle.records.specs.Record.{gateAt, witnessAt, countsAt, jobAt};
 ghost use Rattle.records.specs.Calls.{noJob, asRead, recordField, bodyBy, ended};
 
 // A record's kind and parts. What the kind does not have is all 0.
@@ -140,20 +143,16 @@ fn read_witness(bytes: &[u8], at: usize, table: Table) -> RecordField
     }
 }
 
-// Returns the open job of the numbers that a record holds. M is found from K.
-fn open_job(table: Table, k: u32, v: Vector, s: Vector, counts: [u32; 256]) -> Job
-    ensures { λ r. ⌜ r ≡ openJob table k v s counts ⌝ }
+// Returns the core of the open job of the numbers that a record holds. M is found from K.
+fn open_core(k: u32, v: Vector, s: Vector) -> Core
+    ensures { λ r. ⌜ r ≡ record { k = k; v = v; mark = highest k; s = s; stage = Stage.Open } ⌝ }
 {
-    Job {
-        table,
-        state: State {
-            k,
-            v,
-            mark: top_power(k),
-            s,
-            counts,
-            stage: Stage::Open,
-        },
+    Core {
+        k,
+        v,
+        mark: top_power(k),
+        s,
+        stage: Stage::Open,
     }
 }
 
@@ -167,14 +166,18 @@ fn read_counts(bytes: &[u8], at: usize, table: Table, k: u32, v: Vector, s: Vect
     if let Status::Refused(number) = status {
         return no_body(number);
     }
-    let counts = field.counts;
-    let job = open_job(table, k, v, s, counts);
     if !field.kept {
         return no_body(9);
     }
-    if !is_sound(table, job.state) {
+    let counts = field.counts;
+    let core = open_core(k, v, s);
+    if !is_sound(table, core, &counts) {
         return no_body(9);
     }
+    let job = Job {
+        table,
+        state: state_of(core, counts),
+    };
     let mut read = bare(Kind::Job, table);
     read.job = job;
     RecordField {

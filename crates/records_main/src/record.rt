@@ -160,7 +160,7 @@ fn same_parts(x: Read, y: Read) -> bool {
     let b = gate.threshold;
     same_table(x.table, y.table)
         && is_gate_of(x.gate, gate.n, Vector { a, b })
-        && same_counts(x_counts, y_counts)
+        && same_counts(&x_counts, &y_counts)
 }
 
 // Whether two records are the same in every part.

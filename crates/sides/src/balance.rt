@@ -12,9 +12,8 @@ pub fn is_balanced(table: Table, witness: Witness) -> bool
     requires { ⌜ table .n ≤ 8 ⌝ }
     ensures { λ r. ⌜ r ≡ balances (functionOf table) (countOf (witness .counts)) ⌝ }
 {
-    let counts = witness.counts;
-    let trues = side_sums(table, true, counts);
-    let falses = side_sums(table, false, counts);
+    let trues = side_sums(table, true, &witness.counts);
+    let falses = side_sums(table, false, &witness.counts);
     if trues[0] == 0 {
         return false;
     }

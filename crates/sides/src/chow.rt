@@ -11,7 +11,8 @@ fn true_rows(table: Table) -> [u64; 9]
     requires { ⌜ table .n ≤ 8 ⌝ }
     ensures { λ r. ⌜ r ≡ tabulate 9 (trueRows table) ⌝ }
 {
-    side_sums(table, true, [1u32; 256])
+    let ones = [1u32; 256];
+    side_sums(table, true, &ones)
 }
 
 // Returns q of the input at a place: 2pi − p0, and 0 past n.

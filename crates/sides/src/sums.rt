@@ -9,6 +9,7 @@ ghost use lib.ListN.{length, getD};
 ghost use Rattle.numbers.specs.Tests.{sameBool};
 ghost use Rattle.numbers.specs.Tabulate.{tabulate};
 ghost use Rattle.table.specs.Table.{value, functionOf};
+ghost use Rattle.table.specs.Witness.{CountArray};
 ghost use Rattle.function.specs.Witness.{inputLevel, onlyIf, sideSum, countOf};
 ghost use Rattle.function.specs.Function.{level};
 
@@ -41,9 +42,9 @@ fn add_row(sums: &mut [u64; 9], table: Table, side: bool, row: usize, count: u32
 }
 
 // Returns the sums of a side: for each input the counts of the rows whose value is `side`, each times the input's level.
-pub fn side_sums(table: Table, side: bool, counts: [u32; 256]) -> [u64; 9]
-    requires { ⌜ table .n ≤ 8 ⌝ }
-    ensures { λ r. ⌜ r ≡ tabulate 9 (sideSum (functionOf table) side (countOf counts)) ⌝ }
+pub fn side_sums(table: Table, side: bool, counts: &[u32; 256]) -> [u64; 9]
+    requires { ⌜ (table .n ≤ 8) × CountArray (now counts) ⌝ }
+    ensures { λ r. ⌜ r ≡ tabulate 9 (sideSum (functionOf table) side (countOf (now (counts .entry)))) ⌝ }
 {
     let rows = row_count(table.n);
     let mut sums = [0u64; 9];

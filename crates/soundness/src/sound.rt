@@ -1,4 +1,5 @@
 // The test that a state is sound on a table, whatever it holds.
+use machine::core::Core;
 use machine::power::top_power;
 use machine::scan::first_failing;
 use machine::scan::row_values;
@@ -11,7 +12,6 @@ use table::witness::counts_within;
 use table::witness::same_counts;
 use trace::traced::is_traced;
 use types::stage::Stage;
-use types::state::State;
 use types::table::Table;
 use types::vector::Vector;
 use unateness::binate::binate_counts;
@@ -20,89 +20,90 @@ ghost use mathlib.Core.Path.{_≡_};
 ghost use mathlib.Core.Bool.{true, false, not, _&&_, _||_};
 ghost use Prim.Native.Nat.{_≤_, _<_};
 ghost use lib.Dec.{leb, eqb};
-ghost use lib.ListN.{drop};
+ghost use lib.ListN.{length, drop};
 ghost use Rattle.numbers.specs.Tests.{allAtMost, isSome};
 ghost use Rattle.table.specs.Table.{rows, functionOf};
 ghost use Rattle.table.specs.Gate.{inRange};
+ghost use Rattle.table.specs.Witness.{CountArray};
 ghost use Rattle.function.specs.Vector.{sameVector, zeroVector};
 ghost use Rattle.function.specs.Failing.{failing};
 ghost use Rattle.function.specs.Binate.{binatePlace};
+ghost use Rattle.machine.specs.Core.{stateOf};
 ghost use Rattle.state.specs.Sound.{cap, markFor, isTraced, isBinateWith, soundIn, isSound};
 
 // The most corrections of a job.
 pub const CAP: u32 = 1_000_000;
 
 // Whether some row fails.
-fn some_fails(table: Table, state: State) -> bool
-    requires { ⌜ (table .n ≤ 8) × (state .k ≤ cap) × (inRange (state .k) (table .n) (state .v .a) (state .v .b) ≡ true) ⌝ }
-    ensures { λ r. ⌜ r ≡ isSome (failing (functionOf table) (state .v)) ⌝ }
+fn some_fails(table: Table, core: Core) -> bool
+    requires { ⌜ (table .n ≤ 8) × (core .k ≤ cap) × (inRange (core .k) (table .n) (core .v .a) (core .v .b) ≡ true) ⌝ }
+    ensures { λ r. ⌜ r ≡ isSome (failing (functionOf table) (core .v)) ⌝ }
 {
     let values = row_values(table);
     let mut distances = [0i32; 256];
-    is_found(first_failing(&mut distances, &values, table, state.v))
+    is_found(first_failing(&mut distances, &values, table, core.v))
 }
 
 // Whether some row fails, and v differs from s unless all counts are 0.
-fn goes_on(table: Table, state: State) -> bool
-    requires { ⌜ (table .n ≤ 8) × (state .k ≤ cap) × (inRange (state .k) (table .n) (state .v .a) (state .v .b) ≡ true) ⌝ }
-    ensures { λ r. ⌜ r ≡ (isSome (failing (functionOf table) (state .v)) && (not (sameVector (state .v) (state .s)) || allAtMost 0 (state .counts))) ⌝ }
+fn goes_on(table: Table, core: Core, counts: &[u32; 256]) -> bool
+    requires { ⌜ (table .n ≤ 8) × (core .k ≤ cap) × (inRange (core .k) (table .n) (core .v .a) (core .v .b) ≡ true) × (length (now counts) ≡ 256) ⌝ }
+    ensures { λ r. ⌜ r ≡ (isSome (failing (functionOf table) (core .v)) && (not (sameVector (core .v) (core .s)) || allAtMost 0 (now (counts .entry)))) ⌝ }
 {
-    if !some_fails(table, state) {
+    if !some_fails(table, core) {
         return false;
     }
-    if !same_vector(state.v, state.s) {
+    if !same_vector(core.v, core.s) {
         return true;
     }
-    let counts = state.counts;
     counts_within(counts, 0, 0)
 }
 
 // Whether K is at least 2, and v is s again.
-fn has_looped(state: State) -> bool
-    ensures { λ r. ⌜ r ≡ (leb 2 (state .k) && sameVector (state .v) (state .s)) ⌝ }
+fn has_looped(core: Core) -> bool
+    ensures { λ r. ⌜ r ≡ (leb 2 (core .k) && sameVector (core .v) (core .s)) ⌝ }
 {
-    2 <= state.k && same_vector(state.v, state.s)
+    2 <= core.k && same_vector(core.v, core.s)
 }
 
 // Whether the table is binate, and the counts are those that show it.
-fn has_binate_counts(table: Table, state: State) -> bool
+fn has_binate_counts(table: Table, core: Core, counts: &[u32; 256]) -> bool
     requires { ⌜ table .n ≤ 8 ⌝ }
-    ensures { λ r. ⌜ r ≡ isBinateWith (functionOf table) (binatePlace (functionOf table)) state ⌝ }
+    ensures { λ r. ⌜ r ≡ isBinateWith (functionOf table) (binatePlace (functionOf table)) (stateOf core (now (counts .entry))) ⌝ }
 {
     let Lowest::At(place) = binate_place(table) else {
         return false;
     };
-    let counts = state.counts;
-    same_counts(counts, binate_counts(table, place))
+    let shown = binate_counts(table, place);
+    same_counts(counts, &shown)
 }
 
 // Whether the state is the fresh one of a binate table.
-fn is_binate_start(table: Table, state: State) -> bool
+fn is_binate_start(table: Table, core: Core, counts: &[u32; 256]) -> bool
     requires { ⌜ table .n ≤ 8 ⌝ }
-    ensures { λ r. ⌜ r ≡ (eqb (state .k) 0
-        && sameVector (state .v) zeroVector
-        && sameVector (state .s) zeroVector
-        && isBinateWith (functionOf table) (binatePlace (functionOf table)) state) ⌝ }
+    ensures { λ r. ⌜ r ≡ (eqb (core .k) 0
+        && sameVector (core .v) zeroVector
+        && sameVector (core .s) zeroVector
+        && isBinateWith (functionOf table) (binatePlace (functionOf table)) (stateOf core (now (counts .entry)))) ⌝ }
 {
     let zero = Vector { a: [0i32; 8], b: 0 };
-    if state.k != 0 {
+    if core.k != 0 {
         return false;
     }
-    if !same_vector(state.v, zero) {
+    if !same_vector(core.v, zero) {
         return false;
     }
-    if !same_vector(state.s, zero) {
+    if !same_vector(core.s, zero) {
         return false;
     }
-    has_binate_counts(table, state)
+    has_binate_counts(table, core, counts)
 }
 
 // Whether the state is traced, on a table that is not binate.
-fn is_unate_trace(table: Table, state: State) -> bool
-    requires { ⌜ table .n ≤ 8 ⌝ }
-    ensures { λ r. ⌜ r ≡ (isTraced (functionOf table) state && not (isSome (binatePlace (functionOf table)))) ⌝ }
+fn is_unate_trace(table: Table, core: Core, counts: &[u32; 256]) -> bool
+    requires { ⌜ (table .n ≤ 8) × CountArray (now counts) ⌝ }
+    ensures { λ r. ⌜ r ≡ (isTraced (functionOf table) (stateOf core (now (counts .entry))) && not (isSome (binatePlace (functionOf table)))) ⌝ }
 {
-    if !is_traced(table, state) {
+    if !is_traced(table, core, counts) {
         return false;
     }
     !is_found(binate_place(table))
@@ -121,53 +122,52 @@ fn mark_for(stage: Stage, k: u32) -> u32
 }
 
 // Whether the state is in order for its stage.
-fn sound_in(table: Table, state: State) -> bool
-    requires { ⌜ (table .n ≤ 8) × (state .k ≤ cap) × (inRange (state .k) (table .n) (state .v .a) (state .v .b) ≡ true) ⌝ }
-    ensures { λ r. ⌜ r ≡ soundIn (functionOf table) (state .stage) state ⌝ }
+fn sound_in(table: Table, core: Core, counts: &[u32; 256]) -> bool
+    requires { ⌜ (table .n ≤ 8) × (core .k ≤ cap) × (inRange (core .k) (table .n) (core .v .a) (core .v .b) ≡ true) × CountArray (now counts) ⌝ }
+    ensures { λ r. ⌜ r ≡ soundIn (functionOf table) (core .stage) (stateOf core (now (counts .entry))) ⌝ }
 {
-    let stage = state.stage;
+    let stage = core.stage;
     match stage {
-        Stage::Open => is_unate_trace(table, state) && goes_on(table, state),
-        Stage::Found => is_unate_trace(table, state) && !some_fails(table, state),
-        Stage::Looped => is_unate_trace(table, state) && has_looped(state),
-        Stage::Binate => is_binate_start(table, state),
+        Stage::Open => is_unate_trace(table, core, counts) && goes_on(table, core, counts),
+        Stage::Found => is_unate_trace(table, core, counts) && !some_fails(table, core),
+        Stage::Looped => is_unate_trace(table, core, counts) && has_looped(core),
+        Stage::Binate => is_binate_start(table, core, counts),
     }
 }
 
 // Whether K is at most the cap, v and s are within ±K, and the counts past the table are 0.
-fn keeps_limits(table: Table, state: State) -> bool
-    requires { ⌜ table .n ≤ 8 ⌝ }
-    ensures { λ r. ⌜ r ≡ (leb (state .k) cap
-        && inRange (state .k) (table .n) (state .v .a) (state .v .b)
-        && inRange (state .k) (table .n) (state .s .a) (state .s .b)
-        && allAtMost 0 (drop (rows table) (state .counts))) ⌝ }
+fn keeps_limits(table: Table, core: Core, counts: &[u32; 256]) -> bool
+    requires { ⌜ (table .n ≤ 8) × (length (now counts) ≡ 256) ⌝ }
+    ensures { λ r. ⌜ r ≡ (leb (core .k) cap
+        && inRange (core .k) (table .n) (core .v .a) (core .v .b)
+        && inRange (core .k) (table .n) (core .s .a) (core .s .b)
+        && allAtMost 0 (drop (rows table) (now (counts .entry)))) ⌝ }
 {
     let n = table.n;
-    let k = state.k;
+    let k = core.k;
     if CAP < k {
         return false;
     }
-    if !vector_within(state.v, n, k) {
+    if !vector_within(core.v, n, k) {
         return false;
     }
-    if !vector_within(state.s, n, k) {
+    if !vector_within(core.s, n, k) {
         return false;
     }
-    let counts = state.counts;
     counts_within(counts, row_count(n), 0)
 }
 
-// Whether the state is sound.
-pub fn is_sound(table: Table, state: State) -> bool
-    requires { ⌜ table .n ≤ 8 ⌝ }
-    ensures { λ r. ⌜ r ≡ isSound (functionOf table) state ⌝ }
+// Whether a state, taken apart, is sound.
+pub fn is_sound(table: Table, core: Core, counts: &[u32; 256]) -> bool
+    requires { ⌜ (table .n ≤ 8) × CountArray (now counts) ⌝ }
+    ensures { λ r. ⌜ r ≡ isSound (functionOf table) (stateOf core (now (counts .entry))) ⌝ }
 {
-    if !keeps_limits(table, state) {
+    if !keeps_limits(table, core, counts) {
         return false;
     }
-    let stage = state.stage;
-    if state.mark != mark_for(stage, state.k) {
+    let stage = core.stage;
+    if core.mark != mark_for(stage, core.k) {
         return false;
     }
-    sound_in(table, state)
+    sound_in(table, core, counts)
 }

@@ -1,10 +1,10 @@
 // The machine's steps, one after another.
 use chunks::chunk::CHUNK;
 use chunks::chunk::chunk;
-use chunks::core::Core;
-use chunks::core::core_of;
-use chunks::core::state_of;
 use lanes::size::is_small;
+use machine::core::Core;
+use machine::core::core_of;
+use machine::core::state_of;
 use machine::power::top_power;
 use machine::scan::first_failing;
 use machine::scan::row_values;
@@ -21,7 +21,7 @@ ghost use Rattle.numbers.specs.Tabulate.{Holds};
 ghost use Rattle.table.specs.Gate.{weightLimit, inRange};
 ghost use Rattle.lanes.specs.Sums.{magnitude};
 ghost use Rattle.correction.specs.Steps.{stepAt};
-ghost use Rattle.chunks.specs.Core.{stateOf};
+ghost use Rattle.machine.specs.Core.{stateOf};
 ghost use Rattle.state.specs.Machine.{withStage, isEnded, run};
 ghost use Rattle.state.specs.Sound.{cap, Sound};
 ghost use Rattle.table.specs.Table.{functionOf};

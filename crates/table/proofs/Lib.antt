@@ -6,3 +6,5 @@ pub mod OnTables
 pub mod BinateRows
 -- the rows in which an input of a table turns the value, and its kind
 pub mod InputLaws
+-- counts that code lends
+pub mod WitnessLaws

@@ -4,7 +4,7 @@ use types::table::Table;
 use types::witness::Witness;
 ghost use mathlib.Core.Path.{_≡_};
 ghost use Prim.Native.Nat.{_≤_};
-ghost use lib.ListN.{drop};
+ghost use lib.ListN.{length, drop};
 ghost use Rattle.numbers.specs.Tests.{allAtMost};
 ghost use Rattle.function.specs.Witness.{sameCounts};
 ghost use Rattle.table.specs.Witness.{unfit};
@@ -13,9 +13,9 @@ ghost use Rattle.table.specs.Witness.{unfit};
 pub const COUNT_LIMIT: u32 = 1_000_000;
 
 // Whether each count from a row on is at most the limit.
-pub fn counts_within(counts: [u32; 256], from: usize, limit: u32) -> bool
-    requires { ⌜ from ≤ 256 ⌝ }
-    ensures { λ r. ⌜ r ≡ allAtMost limit (drop from counts) ⌝ }
+pub fn counts_within(counts: &[u32; 256], from: usize, limit: u32) -> bool
+    requires { ⌜ (length (now counts) ≡ 256) × (from ≤ 256) ⌝ }
+    ensures { λ r. ⌜ r ≡ allAtMost limit (drop from (now (counts .entry))) ⌝ }
 {
     let mut row = from;
     while row < 256 {
@@ -28,8 +28,8 @@ pub fn counts_within(counts: [u32; 256], from: usize, limit: u32) -> bool
 }
 
 // Whether the counts are the same.
-pub fn same_counts(x: [u32; 256], y: [u32; 256]) -> bool
-    ensures { λ r. ⌜ r ≡ sameCounts x y ⌝ }
+pub fn same_counts(x: &[u32; 256], y: &[u32; 256]) -> bool
+    ensures { λ r. ⌜ r ≡ sameCounts (now (x .entry)) (now (y .entry)) ⌝ }
 {
     let mut row: usize = 0;
     while row < 256 {
@@ -46,12 +46,11 @@ pub fn witness_unfit(table: Table, witness: Witness) -> bool
     requires { ⌜ table .n ≤ 8 ⌝ }
     ensures { λ r. ⌜ r ≡ unfit table witness ⌝ }
 {
-    let counts = witness.counts;
-    if counts_within(counts, 0, 0) {
+    if counts_within(&witness.counts, 0, 0) {
         return true;
     }
-    if !counts_within(counts, 0, COUNT_LIMIT) {
+    if !counts_within(&witness.counts, 0, COUNT_LIMIT) {
         return true;
     }
-    !counts_within(counts, row_count(table.n), 0)
+    !counts_within(&witness.counts, row_count(table.n), 0)
 }

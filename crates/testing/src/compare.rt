@@ -50,9 +50,7 @@ fn same_progress(x: State, y: State) -> bool {
 
 // Whether v, s and the counts are the same.
 fn same_numbers(x: State, y: State) -> bool {
-    let x_counts = x.counts;
-    let y_counts = y.counts;
-    same_vector(x.v, y.v) && same_vector(x.s, y.s) && same_counts(x_counts, y_counts)
+    same_vector(x.v, y.v) && same_vector(x.s, y.s) && same_counts(&x.counts, &y.counts)
 }
 
 // Whether the jobs are the same.

@@ -1,6 +1,6 @@
 // How a job came to its vector: the counts of its rows since the mark, summed and compared. Sums are of 64 bits, so that none wraps.
+use machine::core::Core;
 use sides::sums::side_sums;
-use types::state::State;
 use types::table::Table;
 use types::vector::Vector;
 ghost use mathlib.Core.Path.{_≡_};
@@ -8,8 +8,10 @@ ghost use Prim.Native.Nat.{_^_, _≤_, _<_};
 ghost use lib.IntN.{pos, _+ℤ_};
 ghost use Rattle.numbers.specs.Tests.{sameZ};
 ghost use Rattle.table.specs.Table.{functionOf};
+ghost use Rattle.table.specs.Witness.{CountArray};
 ghost use Rattle.function.specs.Vector.{component};
 ghost use Rattle.state.specs.Sound.{isTraced};
+ghost use Rattle.machine.specs.Core.{stateOf};
 
 // Returns the component of a vector that a correction changes by the level of the input: input 0 is the negation of b.
 fn component(v: Vector, input: usize) -> i64
@@ -31,20 +33,19 @@ fn traced_at(v: Vector, s: Vector, input: usize, added: u64, taken: u64) -> bool
 }
 
 // Whether the counts add up to K − M, and v is s with each row's correction times its count.
-pub fn is_traced(table: Table, state: State) -> bool
-    requires { ⌜ table .n ≤ 8 ⌝ }
-    ensures { λ r. ⌜ r ≡ isTraced (functionOf table) state ⌝ }
+pub fn is_traced(table: Table, core: Core, counts: &[u32; 256]) -> bool
+    requires { ⌜ (table .n ≤ 8) × CountArray (now counts) ⌝ }
+    ensures { λ r. ⌜ r ≡ isTraced (functionOf table) (stateOf core (now (counts .entry))) ⌝ }
 {
-    let counts = state.counts;
     let added = side_sums(table, true, counts);
     let taken = side_sums(table, false, counts);
-    if added[0] + taken[0] + state.mark as u64 != state.k as u64 {
+    if added[0] + taken[0] + core.mark as u64 != core.k as u64 {
         return false;
     }
     let n = table.n as usize;
     let mut input: usize = 0;
     while input <= n {
-        if !traced_at(state.v, state.s, input, added[input], taken[input]) {
+        if !traced_at(core.v, core.s, input, added[input], taken[input]) {
             return false;
         }
         input = input + 1;

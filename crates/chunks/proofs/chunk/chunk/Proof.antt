@@ -12,7 +12,7 @@ use Rattle.table.specs.Table.{rows}
 use Rattle.table.proofs.TableLaws.{rows-le}
 use Rattle.types.specs.declared.table.Table.{Table}
 use Rattle.types.specs.declared.state.State.{State}
-use Rattle.chunks.specs.Core.{stateOf}
+use Rattle.machine.specs.Core.{stateOf}
 use Rattle.chunks.proofs.UnsettledLaws.{Bounded}
 use Rattle.chunks.proofs.FollowLaws.{withVectors, Follows, follows-start, restores}
 use Rattle.chunks.proofs.ChunkLaws.{Begun, Passed, Going, follows-narrow, follows-passed, passed-bounded, passed-row, passed-cleared, passed-going, passed-closed, passed-marked, passed-other, going-ends}

@@ -7,6 +7,10 @@ use Rattle.cell.specs.Answers.{status}
 use Rattle.cell.specs.Refusal.{Rule, Answered, answered, checked}
 use Rattle.cell.proofs.RefusalLaws.{rule-broken, rule-kept}
 use Rattle.cell.proofs.TableChecked.{table-refused, table-passed, table-inputs}
+use Rattle.state.specs.Sound.{isSound}
+use Rattle.table.specs.Table.{functionOf}
+use Rattle.table.specs.Witness.{CountArray}
+use Rattle.table.proofs.WitnessLaws.{count-array}
 use Rattle.job.specs.declared.job.Job.{Job}
 use Rattle.job.specs.Calls.{unsound, jobChecked}
 use Rattle.job.proofs.job.job_status.Statement.{statement}
@@ -27,10 +31,6 @@ returns c =
 enum-told : tie.Need-enum-told
 enum-told c = search needs
 
-is-sound-requires : tie.Need-is-sound-requires
-is-sound-requires c κs =
-    table-inputs _ (c .before .before .table-status .ensures) (c .enum-told .given .1)
-
 -- past the table's rules
 abbrev job : tie.After-enum-told → Job
 job c = c .before .before .before .before .args .job
@@ -38,11 +38,24 @@ job c = c .before .before .before .before .args .job
 passed : (c : tie.After-enum-told) {next : Answered (Unit {0})} → next ≡ checked (others (job c)) done → status next ≡ status (jobChecked (job c))
 passed c e = ap status (e ∙ table-passed (job c .table) (c .before .before .table-status .ensures) (others (job c)) done (c .enum-told .given .1))
 
+counts-lent : (c : tie.After-enum-told) → CountArray (job c .state .counts)
+counts-lent c = count-array (search needs) (λ r. search needs)
+
+is-sound-requires : tie.Need-is-sound-requires
+is-sound-requires c κs =
+    let at = c .before .before .before .before in
+    (table-inputs _ (at .before .before .table-status .ensures) (at .enum-told .given .1), counts-lent at)
+
+-- whether the job's state is sound
+sound-is : (c : tie.After-is-sound) → let j = job (c .before .before .before .before .before) in
+    c .is-sound .result ≡ isSound (functionOf (j .table)) (j .state)
+sound-is c = c .is-sound .ensures ∙ ap (isSound (functionOf _)) (c .before .before .before .core-of .ensures)
+
 returns-2 : tie.Need-returns-2
-returns-2 c = passed (c .before .before) (rule-broken 9 [] done (ap not (sym (c .before .is-sound .ensures)) ∙ c .if1 .taken))
+returns-2 c = passed (c .before .before .before .before .before .before) (rule-broken 9 [] done (ap not (sym (sound-is (c .before))) ∙ c .if1 .taken))
 
 returns-3 : tie.Need-returns-3
-returns-3 c = passed (c .before .before) (rule-kept 9 [] done (ap not (sym (c .before .is-sound .ensures)) ∙ c .if1 .left))
+returns-3 c = passed (c .before .before .before .before .before .before) (rule-kept 9 [] done (ap not (sym (sound-is (c .before))) ∙ c .if1 .left))
 
 pub job-status-spec : {M : Type 1} → statement M
 job-status-spec =
@@ -52,6 +65,7 @@ job-status-spec =
     (λ c. search needs)
     returns
     enum-told
+    (λ c κs. search needs)
     is-sound-requires
     returns-2
     returns-3)

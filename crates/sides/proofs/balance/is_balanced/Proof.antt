@@ -14,6 +14,8 @@ use Rattle.types.specs.declared.witness.Witness.{Witness}
 use Rattle.function.specs.Witness.{countOf, sideSum, Balances, balances}
 use Rattle.function.proofs.WitnessLaws.{side-sums-equal, balances-correct}
 use Rattle.table.specs.Table.{functionOf}
+use Rattle.table.specs.Witness.{CountArray}
+use Rattle.table.proofs.WitnessLaws.{count-array}
 use Rattle.table.proofs.OnTables.{table-balances}
 use Rattle.sides.proofs.SideLaws.{sum-at}
 use Rattle.sides.proofs.balance.is_balanced.Statement.{statement}
@@ -26,11 +28,14 @@ abbrev μ-loop : tie.MeasureT-loop
 μ-loop trues falses n input₀ input = n + 1 - input
 
 module _ (c : tie.After-side-sums2 Inv-loop μ-loop) where
+  abbrev start : tie.Start Inv-loop μ-loop
+  start = c .before .before .before .before .before .before
+
   abbrev table : Table
-  table = c .before .before .before .args .table
+  table = start .args .table
 
   abbrev witness : Witness
-  witness = c .before .before .before .args .witness
+  witness = start .args .t2
 
   abbrev total : Bool → ℕ → ℕ
   total side = sideSum (functionOf table) side (countOf (witness .counts))
@@ -43,11 +48,15 @@ module _ (c : tie.After-side-sums2 Inv-loop μ-loop) where
   says = balances-correct (functionOf table) (countOf (witness .counts))
 
   -- the sums that the calls gave
-  true-is : (i : ℕ) → i < 9 → getD (c .before .side-sums .result) i 0 ≡ total true i
-  true-is i h = sum-at (total true) i (c .before .side-sums .ensures) h
+  true-is : (i : ℕ) → i < 9 → getD (c .before .before .before .side-sums .result) i 0 ≡ total true i
+  true-is i h = sum-at (total true) i (c .before .before .before .side-sums .ensures) h
 
   false-is : (i : ℕ) → i < 9 → getD (c .side-sums2 .result) i 0 ≡ total false i
   false-is i h = sum-at (total false) i (c .side-sums2 .ensures) h
+
+-- the counts are lent
+counts-lent : (c : tie.Start Inv-loop μ-loop) → CountArray (c .args .t2 .counts)
+counts-lent c = count-array (search needs) (λ r. search needs)
 
 returns : tie.Need-returns Inv-loop μ-loop
 returns c =
@@ -92,8 +101,8 @@ is-balanced-spec =
     (tie.spec
     Inv-loop
     μ-loop
-    (λ c κs. search needs)
-    (λ c κs. search needs)
+    (λ c κs. (c .before .before .pre, counts-lent (c .before .before)))
+    (λ c κs. (c .before .before .before .before .before .pre, counts-lent (c .before .before .before .before .before)))
     (λ c. search needs)
     returns
     (λ c. search needs)

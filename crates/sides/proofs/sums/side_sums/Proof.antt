@@ -7,8 +7,6 @@ use Prim.Native.Nat.{ℕ, _+_, _-_, _^_, _≤_, _<_}
 use native.Mathlib.Numerals.{add-one}
 use native.Mathlib.Omega.{arith}
 use lib.ListN.{length, getD, replicate, getD-replicate}
-use mir.Syntax.{w32}
-use mir.Val.{Fits}
 use borrow.Author.Needs.{needs}
 use Rattle.numbers.specs.Sum.{sumBelow}
 use Rattle.numbers.specs.Tabulate.{tabulate}
@@ -47,18 +45,14 @@ abbrev μ-loop : tie.MeasureT-loop
 loop-holds : tie.Need-loop-holds Inv-loop μ-loop
 loop-holds c = (
   omega arith,
-  omega (arith, rows-le (c .before .pre)),
+  omega (arith, rows-le (c .before .pre .0)),
   tabulate-getD _ 9 0 (replicate 9 0) refl (λ i h. getD-replicate 9 i 0 0 h ∙ sym (sum-below-zero _)),
 )
-
--- each count fits its type
-counts-fit : (c : tie.Start Inv-loop μ-loop) (r : ℕ) → countOf (c .args .t3) r ≤ 4294967295
-counts-fit c r = let f : Fits w32 (getD (c .args .t3) r 0) = search needs in omega arith
 
 -- each sum is what the rows below add, and below 2^40
 sum-is : (c : tie.At-loop Inv-loop μ-loop) (i : ℕ) → i < 9
     → let a = c .before .before .args in
-    getD (c .loop .sums) i 0 ≡ sumTo (a .table) (a .side) (a .t3) (c .loop .row) i
+    getD (c .loop .sums) i 0 ≡ sumTo (a .table) (a .side) (a .counts .now) (c .loop .row) i
 sum-is c i h = ap (λ (l : List ℕ). getD l i 0) (c .loop .inv .2) ∙ getD-tabulate _ 9 i 0 h
 
 sum-lt : (c : tie.In-loop Inv-loop μ-loop) (i : ℕ) → i < 9 → getD (c .before .loop .sums) i 0 < 2 ^ 40
@@ -68,19 +62,19 @@ sum-lt c i h =
     omega (
       arith,
       sum-is (c .before) i h,
-      side-terms-le (a .table) (a .side) (countOf (a .t3)) i 4294967295 (counts-fit start) (c .before .loop .row),
+      side-terms-le (a .table) (a .side) (countOf (a .counts .now)) i 4294967295 (λ r. omega (arith, start .pre .1 .fits r)) (c .before .loop .row),
     )
 
 add-row-requires : tie.Need-add-row-requires Inv-loop μ-loop
 add-row-requires c κs =
-    let head = c .before .before in
-    (omega arith, ap length (head .loop .inv .2) ∙ length-tabulate _ 9, sum-lt (c .before))
+    let head = c .before .before .before in
+    (omega arith, ap length (head .loop .inv .2) ∙ length-tabulate _ 9, sum-lt (c .before .before))
 
 loop-again : tie.Need-loop-again Inv-loop μ-loop
 loop-again c =
-    let head = c .before .before .before in
+    let head = c .before .before .before .before in
     let a = head .before .before .args in
-    (omega arith, head .loop .inv .1, row-added (a .table) (a .side) (a .t3) (head .loop .row) (head .loop .sums) (c .add-row .ensures) (sum-is head))
+    (omega arith, head .loop .inv .1, row-added (a .table) (a .side) (a .counts .now) (head .loop .row) (head .loop .sums) (c .add-row .ensures) (sum-is head))
 
 returns : tie.Need-returns Inv-loop μ-loop
 returns c =
@@ -88,7 +82,7 @@ returns c =
     let all : c .before .loop .row ≡ rows (a .table) = omega arith in
     c .before .loop .inv .2
     ∙ tabulate-ext _ _ 9
-    (λ i h. ap (λ (m : ℕ). sumTo (a .table) (a .side) (a .t3) m i) all ∙ sym (side-sum-terms (functionOf (a .table)) (a .side) (countOf (a .t3)) i))
+    (λ i h. ap (λ (m : ℕ). sumTo (a .table) (a .side) (a .counts .now) m i) all ∙ sym (side-sum-terms (functionOf (a .table)) (a .side) (countOf (a .counts .now)) i))
 
 pub side-sums-spec : {M : Type 1} → statement M
 side-sums-spec =

@@ -17,7 +17,7 @@ returns-2 c =
 
 returns-3 : tie.Need-returns-3
 returns-3 c =
-    let same = c .before .before in
+    let same = c .before in
     let failed = same .before .before in
     and-passed (failed .before .some-fails .ensures) (not-false _ (failed .if1 .left))
     (rw (sym (same .before .same-vector .ensures) ∙ not-false _ (same .if2 .left)) (c .counts-within .ensures))

@@ -13,6 +13,7 @@ use Rattle.table.specs.Table.{rows, functionOf}
 use Rattle.table.specs.Gate.{inRange}
 use Rattle.types.specs.declared.table.Table.{Table}
 use Rattle.types.specs.declared.state.State.{State}
+use Rattle.machine.specs.Core.{stateOf}
 use Rattle.state.specs.Sound.{cap, markFor, soundIn, isSound}
 use Rattle.table.proofs.OnTables.{table-counts-cared}
 use Rattle.soundness.proofs.TestLaws.{and-passed, and-failed}
@@ -48,11 +49,15 @@ module _ (t : Table) (x : State) where
   sound-parts v s counts =
       rw (v, s, counts, one-mul (x .k), table-counts-cared t (countOf (x .counts)), and-true (capped && current && copied)) (sym (and-assoc limits marked (soundIn (functionOf t) (x .stage) x)))
 
--- of the state that is tested
+-- the state that is tested
+abbrev state : tie.Start → State
+state c = stateOf (c .args .core) (c .args .counts .now)
+
+-- it is sound by its parts
 parts : (c : tie.Start) → let t = c .args .table in
-    let x = c .args .state in
+    let x = state c in
     (limits t x && (marked t x && soundIn (functionOf t) (x .stage) x)) ≡ isSound (functionOf t) x
-parts c = sound-parts (c .args .table) (c .args .state) (search needs) (search needs) (search needs)
+parts c = sound-parts (c .args .table) (state c) (search needs) (search needs) (c .pre .1 .size)
 
 returns : tie.Need-returns
 returns c = and-failed _ (c .before .keeps-limits .ensures) (not-true _ (c .if1 .taken)) refl ∙ parts (c .before .before)
@@ -69,10 +74,10 @@ sound-in-requires : tie.Need-sound-in-requires
 sound-in-requires c κs =
     let kept = c .before .before .before in
     let t = kept .before .before .args .table in
-    let x = kept .before .before .args .state in
+    let x = state (kept .before .before) in
     let all : limits t x ≡ true = sym (kept .before .keeps-limits .ensures) ∙ not-false _ (kept .if1 .left) in
     let first : (capped t x && current t x) ≡ true = and-left _ _ (and-left _ _ all) in
-    (kept .before .before .pre, leb-true _ _ (and-left (capped t x) (current t x) first), and-right (capped t x) (current t x) first)
+    (kept .before .before .pre .0, leb-true _ _ (and-left (capped t x) (current t x) first), and-right (capped t x) (current t x) first, kept .before .before .pre .1)
 
 returns-3 : tie.Need-returns-3
 returns-3 c =

@@ -32,14 +32,16 @@ returns-3 c =
     )
 
 counts-within-requires : tie.Need-counts-within-requires
-counts-within-requires c κs = omega (arith, c .row-count .ensures, rows-le (c .before .before .before .before .before .before .before .pre))
+counts-within-requires c κs =
+    let start = c .before .before .before .before .before .before in
+    (start .pre .1, omega (arith, c .row-count .ensures, rows-le (start .pre .0)))
 
 returns-4 : tie.Need-returns-4
 returns-4 c =
-    let copied = c .before .before .before in
+    let copied = c .before .before in
     let current = copied .before .before in
     let capped = current .before .before in
-    let counts = capped .before .args .state .counts in
+    let counts = capped .before .args .counts .now in
     rw (
       le-leb _ _ (capped .if1 .left),
       sym (current .before .vector-within .ensures) ∙ not-false _ (current .if2 .left),

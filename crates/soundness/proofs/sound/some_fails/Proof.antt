@@ -15,13 +15,13 @@ first-failing-requires c κs =
     let valued = c .before .before in
     let start = valued .before in
     let n = start .args .table .n in
-    let x = start .args .state in
+    let x = start .args .core in
     (start .pre .0, in-range-search (x .k) n (x .v .a) (x .v .b) (start .pre .1) (start .pre .2), valued .row-values .ensures)
 
 returns : tie.Need-returns
 returns c =
     let a = c .before .before .before .before .before .args in
-    c .is-found .ensures ∙ ap isFound (c .before .first-failing .ensures) ∙ is-found-lowest (failing (functionOf (a .table)) (a .state .v))
+    c .is-found .ensures ∙ ap isFound (c .before .first-failing .ensures) ∙ is-found-lowest (failing (functionOf (a .table)) (a .core .v))
 
 pub some-fails-spec : {M : Type 1} → statement M
 some-fails-spec =

@@ -6,7 +6,7 @@ use Prim.Native.Nat.{_≤_, _<_}
 use native.Mathlib.Omega.{arith}
 use Rattle.lanes.specs.Sums.{magnitude}
 use Rattle.types.specs.declared.stage.Stage.the-variants.{Open}
-use Rattle.chunks.specs.Core.{stateOf}
+use Rattle.machine.specs.Core.{stateOf}
 use Rattle.state.specs.Sound.{Sound}
 use Rattle.state.proofs.SoundBounds.{in-range-search, unit-current, unit-copied}
 use Rattle.stepping.proofs.LeftLaws.{Left, left-start, left-next, left-sound, left-capped}

@@ -11,31 +11,28 @@ use Rattle.table.proofs.witness.counts_within.Statement.{statement}
 use Rattle.table.proofs.witness.counts_within.Tie as tie
 
 abbrev Inv-loop : tie.InvT-loop
-Inv-loop from limit counts row₀ row = (row ≤ 256) × (allAtMost limit (drop row counts) ≡ allAtMost limit (drop from counts))
+Inv-loop counts from limit row₀ row = (row ≤ 256) × (allAtMost limit (drop row counts) ≡ allAtMost limit (drop from counts))
 
 abbrev μ-loop : tie.MeasureT-loop
-μ-loop from limit counts row₀ row = 256 - row
+μ-loop counts from limit row₀ row = 256 - row
 
 returns : tie.Need-returns Inv-loop μ-loop
 returns c =
-    let a = c .before .before .before .args in
-    let at-test = c .before .before .loop in
-    let n : length (a .t1) ≡ 256 = search needs in
-    sym (all-at-most-fails (a .limit) (a .t1) (at-test .row) (omega arith) (c .if1 .taken)) ∙ at-test .inv .1
+    let at-test = c .before .before .before in
+    let a = at-test .before .args in
+    sym (all-at-most-fails (a .limit) (a .counts .now) (at-test .loop .row) (omega (arith, at-test .before .pre .0)) (c .if1 .taken)) ∙ at-test .loop .inv .1
 
 loop-again : tie.Need-loop-again Inv-loop μ-loop
 loop-again c =
-    let a = c .before .before .before .args in
-    let at-test = c .before .before .loop in
-    let n : length (a .t1) ≡ 256 = search needs in
-    (omega arith, all-at-most-next (a .limit) (a .t1) (at-test .row) (omega arith) (c .if1 .left) ∙ at-test .inv .1)
+    let at-test = c .before .before .before in
+    let a = at-test .before .args in
+    (omega arith, all-at-most-next (a .limit) (a .counts .now) (at-test .loop .row) (omega (arith, at-test .before .pre .0)) (c .if1 .left) ∙ at-test .loop .inv .1)
 
 returns-2 : tie.Need-returns-2 Inv-loop μ-loop
 returns-2 c =
     let a = c .before .before .args in
     let at-end = c .before .loop in
-    let n : length (a .t1) ≡ 256 = search needs in
-    sym (all-at-most-end (a .limit) (a .t1) (at-end .row) (omega arith)) ∙ at-end .inv .1
+    sym (all-at-most-end (a .limit) (a .counts .now) (at-end .row) (omega (arith, c .before .before .pre .0))) ∙ at-end .inv .1
 
 pub counts-within-spec : {M : Type 1} → statement M
 counts-within-spec =

@@ -40,20 +40,20 @@ loop-holds c = (omega arith, all-below-zero _)
 
 returns : tie.Need-returns Inv-loop μ-loop
 returns c =
-    let test = c .before in
+    let test = c .before .before .before in
     let a = test .before .before .args in
-    sym (differ-at (a .t1) (a .t2) (test .before .loop .row) (test .loop-test .taken) (ne-eqb _ _ (c .if1 .taken)))
+    sym (differ-at (a .x .now) (a .y .now) (test .before .loop .row) (test .loop-test .taken) (ne-eqb _ _ (c .if1 .taken)))
 
 loop-again : tie.Need-loop-again Inv-loop μ-loop
 loop-again c =
-    let head = c .before .before .loop in
+    let head = c .before .before .before .before .loop in
     (omega arith, all-below-more (head .row) _ (head .inv .1) (eq-eqb _ _ (c .if1 .left)))
 
 returns-2 : tie.Need-returns-2 Inv-loop μ-loop
 returns-2 c =
     let a = c .before .before .args in
     let end : c .before .loop .row ≡ 256 = omega arith in
-    sym (same-by-all (a .t1) (a .t2) (rw end at (c .before .loop .inv .1)))
+    sym (same-by-all (a .x .now) (a .y .now) (rw end at (c .before .loop .inv .1)))
 
 pub same-counts-spec : {M : Type 1} → statement M
 same-counts-spec =

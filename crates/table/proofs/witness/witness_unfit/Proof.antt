@@ -14,7 +14,7 @@ returns c = rw (← c .before .counts-within .ensures, c .if1 .taken)
 returns-2 : tie.Need-returns-2
 unfolding unfit
 returns-2 c =
-    let some-above = c .before .before in
+    let some-above = c .before .before .before .before in
     rw (
       ← some-above .before .counts-within .ensures,
       some-above .if1 .left,
@@ -23,13 +23,13 @@ returns-2 c =
     )
 
 counts-within-requires-3 : tie.Need-counts-within-requires-3
-counts-within-requires-3 c κs = omega (arith, rows-le (c .before .before .before .before .before .before .pre))
+counts-within-requires-3 c κs = (search needs, omega (arith, rows-le (c .before .before .before .before .before .before .before .before .before .before .before .pre)))
 
 returns-3 : tie.Need-returns-3
 unfolding unfit
 returns-3 c =
-    let all-within = c .before .before in
-    let some-above = all-within .before .before in
+    let all-within = c .before .before .before .before in
+    let some-above = all-within .before .before .before .before in
     rw (
       ← some-above .before .counts-within .ensures,
       some-above .if1 .left,

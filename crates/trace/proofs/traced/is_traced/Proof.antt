@@ -36,23 +36,23 @@ abbrev sumIn : List ℕ → ℕ → ℕ
 sumIn sums i = getD sums i 0
 
 abbrev Inv-loop : tie.InvT-loop
-Inv-loop state added taken n input₀ input = (n ≤ 8) × (input ≤ n + 1) × (allBelow input (tracedBy (state .v) (state .s) (sumIn added) (sumIn taken)) ≡ true)
+Inv-loop core counts added taken n input₀ input = (n ≤ 8) × (input ≤ n + 1) × (allBelow input (tracedBy (core .v) (core .s) (sumIn added) (sumIn taken)) ≡ true)
 
 abbrev μ-loop : tie.MeasureT-loop
-μ-loop state added taken n input₀ input = n + 1 - input
+μ-loop core counts added taken n input₀ input = n + 1 - input
 
 -- the sum of a side at an input, of what was handed in
 abbrev sumOf : tie.Start Inv-loop μ-loop → Bool → ℕ → ℕ
-sumOf c side = sideSum (functionOf (c .args .table)) side (countOf (c .args .state .counts))
+sumOf c side = sideSum (functionOf (c .args .table)) side (countOf (c .args .counts .now))
 
 -- it is below 2^40
 sum-lt : (c : tie.Start Inv-loop μ-loop) (side : Bool) (i : ℕ) → sumOf c side i < 2 ^ 40
 sum-lt c side i =
-    side-sum-lt (c .args .table) side (c .args .state .counts) i (c .pre) (λ r. let f : Fits w32 (getD (c .args .state .counts) r 0) = search needs in omega arith)
+    side-sum-lt (c .args .table) side (c .args .counts .now) i (c .pre .0) (λ r. omega (arith, c .pre .1 .fits r))
 
 module _ (c : tie.After-side-sums2 Inv-loop μ-loop) where
   abbrev start : tie.Start Inv-loop μ-loop
-  start = c .before .before .before
+  start = c .before .before
 
   abbrev added : ℕ → ℕ
   added = sumIn (c .before .side-sums .result)
@@ -72,18 +72,18 @@ module _ (c : tie.After-side-sums2 Inv-loop μ-loop) where
 
   -- whether the counts add up to K − M
   abbrev addsUp : Bool
-  addsUp = eqb (sumOf start true 0 + sumOf start false 0 + start .args .state .mark) (start .args .state .k)
+  addsUp = eqb (sumOf start true 0 + sumOf start false 0 + start .args .core .mark) (start .args .core .k)
 
   -- the test of each input, by the sums that the calls gave and by the sides' own
   abbrev code-test : ℕ → Bool
-  code-test = tracedBy (start .args .state .v) (start .args .state .s) added taken
+  code-test = tracedBy (start .args .core .v) (start .args .core .s) added taken
 
   abbrev test : ℕ → Bool
-  test = tracedBy (start .args .state .v) (start .args .state .s) (sumOf start true) (sumOf start false)
+  test = tracedBy (start .args .core .v) (start .args .core .s) (sumOf start true) (sumOf start false)
 
   same-test : (i : ℕ) → i < 9 → code-test i ≡ test i
   same-test i h =
-      ap₂ (λ (a t : ℕ). sameZ (component (start .args .state .v) i +ℤ pos t) (component (start .args .state .s) i +ℤ pos a)) (added-is i h) (taken-is i h)
+      ap₂ (λ (a t : ℕ). sameZ (component (start .args .core .v) i +ℤ pos t) (component (start .args .core .s) i +ℤ pos a)) (added-is i h) (taken-is i h)
 
 add-if1 : tie.Need-add-if1 Inv-loop μ-loop
 add-if1 c = omega (arith, total-is c, sum-lt (start c) true 0, sum-lt (start c) false 0)
@@ -91,14 +91,14 @@ add-if1 c = omega (arith, total-is c, sum-lt (start c) true 0, sum-lt (start c) 
 add-if1-2 : tie.Need-add-if1-2 Inv-loop μ-loop
 add-if1-2 c =
     let at = c .before in
-    let mark : Fits w32 (start at .args .state .mark) = search needs in
+    let mark : Fits w32 (start at .args .core .mark) = search needs in
     omega (arith, total-is at, sum-lt (start at) true 0, sum-lt (start at) false 0)
 
 returns : tie.Need-returns Inv-loop μ-loop
 unfolding isTraced
 returns c =
     let at = c .before .before .before in
-    let x = start at .args .state in
+    let x = start at .args .core in
     rw (ne-eqb _ (x .k) (λ e. c .if1 .taken (ap (λ (total : ℕ). total + x .mark) (total-is at) ∙ e)))
 
 loop-holds : tie.Need-loop-holds Inv-loop μ-loop
@@ -141,7 +141,7 @@ returns-3 c =
     let at = sums head in
     let a = start at .args in
     let end : head .loop .input ≡ suc (a .table .n) = omega arith in
-    let total = ap (λ (x : ℕ). x + a .state .mark) (sym (total-is at)) ∙ head .before .before .if1 .left in
+    let total = ap (λ (x : ℕ). x + a .core .mark) (sym (total-is at)) ∙ head .before .before .if1 .left in
     let inputs = sym (all-below-cong (suc (a .table .n)) (code-test at) (test at) (λ i h. same-test at i (omega arith))) ∙ rw end at (head .loop .inv .2) in
     sym (and-both (eq-eqb _ _ total) inputs)
 

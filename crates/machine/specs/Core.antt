@@ -1,11 +1,11 @@
--- A state taken apart for the fast form of its steps: its core and its counts. For the inside of the machine alone. Definitions only.
+-- A state taken apart, so that its counts can be lent: its core and its counts. For the inside of the machine alone. Definitions only.
 -- Assumes nothing.
 use mathlib.Core.List.{List}
 use Prim.Native.Nat.{ℕ}
 use Rattle.types.specs.declared.stage.Stage.{Stage}
 use Rattle.types.specs.declared.state.State.{State}
 use Rattle.types.specs.declared.vector.Vector.{Vector}
-use Rattle.chunks.specs.declared.core.Core.{Core}
+use Rattle.machine.specs.declared.core.Core.{Core}
 
 -- a core with other vectors, in a stage
 abbrev pub coreWith : Core → (v s : Vector) → Stage → Core

@@ -3,7 +3,7 @@ use types::stage::Stage;
 use types::state::State;
 use types::vector::Vector;
 ghost use mathlib.Core.Path.{_≡_};
-ghost use Rattle.chunks.specs.Core.{stateOf, coreWith};
+ghost use Rattle.machine.specs.Core.{stateOf, coreWith};
 
 // A state but for its counts.
 pub struct Core {
