@@ -66,9 +66,9 @@ fn has_looped(core: Core) -> bool
 }
 
 // Whether the table is binate, and the counts are those that show it.
-fn has_binate_counts(table: Table, core: Core, counts: &[u32; 256]) -> bool
+fn has_binate_counts(table: Table, counts: &[u32; 256]) -> bool
     requires { ⌜ table .n ≤ 8 ⌝ }
-    ensures { λ r. ⌜ r ≡ isBinateWith (functionOf table) (binatePlace (functionOf table)) (stateOf core (now (counts .entry))) ⌝ }
+    ensures { λ r. ⌜ r ≡ isBinateWith (functionOf table) (binatePlace (functionOf table)) (now (counts .entry)) ⌝ }
 {
     let Lowest::At(place) = binate_place(table) else {
         return false;
@@ -83,7 +83,7 @@ fn is_binate_start(table: Table, core: Core, counts: &[u32; 256]) -> bool
     ensures { λ r. ⌜ r ≡ (eqb (core .k) 0
         && sameVector (core .v) zeroVector
         && sameVector (core .s) zeroVector
-        && isBinateWith (functionOf table) (binatePlace (functionOf table)) (stateOf core (now (counts .entry)))) ⌝ }
+        && isBinateWith (functionOf table) (binatePlace (functionOf table)) (now (counts .entry))) ⌝ }
 {
     let zero = Vector { a: [0i32; 8], b: 0 };
     if core.k != 0 {
@@ -95,7 +95,7 @@ fn is_binate_start(table: Table, core: Core, counts: &[u32; 256]) -> bool
     if !same_vector(core.s, zero) {
         return false;
     }
-    has_binate_counts(table, core, counts)
+    has_binate_counts(table, counts)
 }
 
 // Whether the state is traced, on a table that is not binate.

@@ -99,7 +99,7 @@ module _ (f : Function) where
       )
 
   binate-with-correct : (o : Option ℕ) (x : State) → length (x .counts) ≡ 256
-      → isBinateWith f o x ≡ true ↔ ((place : ℕ) × (o ≡ some place) × (x .counts ≡ binateCounts f place))
+      → isBinateWith f o (x .counts) ≡ true ↔ ((place : ℕ) × (o ≡ some place) × (x .counts ≡ binateCounts f place))
   binate-with-correct none x n = (λ e. absurd (no-true e), λ p. absurd (no-true (ap isSome (p .1))))
   binate-with-correct (some place) x n = (
     λ e. (place, refl, same .0 e),

@@ -2,6 +2,7 @@
 -- `is-sound-correct` of proofs/ joins the two. Definitions only. Assumes nothing.
 use mathlib.Core.Path.{_≡_}
 use mathlib.Core.Bool.{Bool, true, false, not, _&&_, _||_}
+use mathlib.Core.List.{List}
 use mathlib.Core.Option.{Option, some, none}
 use Prim.Native.Nat.{ℕ, suc, _+_, _-_, _*_, _≤_}
 use lib.Dec.{leb, eqb}
@@ -81,16 +82,16 @@ isTraced f x =
     && allBelow (suc (f .places))
     (λ i. sameZ (component (x .v) i +ℤ pos (sideSum f false (countOf (x .counts)) i)) (component (x .s) i +ℤ pos (sideSum f true (countOf (x .counts)) i)))
 
-abbrev pub isBinateWith : Function → Option ℕ → State → Bool
-isBinateWith f none x = false
-isBinateWith f (some place) x = sameCounts (x .counts) (binateCounts f place)
+abbrev pub isBinateWith : Function → Option ℕ → List ℕ → Bool
+isBinateWith f none counts = false
+isBinateWith f (some place) counts = sameCounts counts (binateCounts f place)
 
 unfoldable pub soundIn : Function → Stage → State → Bool
 soundIn f Open x =
     isTraced f x && not (isSome (binatePlace f)) && isSome (failing f (x .v)) && (not (sameVector (x .v) (x .s)) || allAtMost 0 (x .counts))
 soundIn f Found x = isTraced f x && not (isSome (binatePlace f)) && not (isSome (failing f (x .v)))
 soundIn f Looped x = isTraced f x && not (isSome (binatePlace f)) && leb 2 (x .k) && sameVector (x .v) (x .s)
-soundIn f Binate x = eqb (x .k) 0 && sameVector (x .v) zeroVector && sameVector (x .s) zeroVector && isBinateWith f (binatePlace f) x
+soundIn f Binate x = eqb (x .k) 0 && sameVector (x .v) zeroVector && sameVector (x .s) zeroVector && isBinateWith f (binatePlace f) (x .counts)
 
 abbrev pub isShaped : State → Bool
 isShaped x = eqb (length (x .v .a)) 8 && eqb (length (x .s .a)) 8 && eqb (length (x .counts)) 256

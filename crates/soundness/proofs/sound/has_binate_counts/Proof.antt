@@ -7,16 +7,10 @@ use Rattle.function.specs.Witness.{sameCounts}
 use Rattle.table.proofs.InputLaws.{lowest-some, lowest-none}
 use Rattle.function.specs.Binate.{binatePlace}
 use Rattle.state.specs.Sound.{isBinateWith}
-use Rattle.types.specs.declared.state.State.{State}
-use Rattle.machine.specs.Core.{stateOf}
 use borrow.Author.Needs.{needs}
 use Rattle.table.specs.Table.{functionOf}
 use Rattle.soundness.proofs.sound.has_binate_counts.Statement.{statement}
 use Rattle.soundness.proofs.sound.has_binate_counts.Tie as tie
-
--- the state that is tested
-abbrev state : tie.Start → State
-state c = stateOf (c .args .core) (c .args .counts .now)
 
 enum-told : tie.Need-enum-told
 enum-told c = search needs
@@ -25,7 +19,7 @@ returns : tie.Need-returns
 returns c =
     let answer = c .before .before in
     let f = functionOf (answer .before .args .table) in
-    ap (λ (o : Option ℕ). isBinateWith f o (state (answer .before))) (sym (lowest-none (binatePlace f) (sym (answer .binate-place .ensures) ∙ c .enum-told .given .1)))
+    ap (λ (o : Option ℕ). isBinateWith f o (answer .before .args .counts .now)) (sym (lowest-none (binatePlace f) (sym (answer .binate-place .ensures) ∙ c .enum-told .given .1)))
 
 -- the place that the search has found
 place-is : (c : tie.After-known-told) → binatePlace (functionOf (c .before .before .before .before .args .table)) ≡ some (c .before .place .given .0 .0)
@@ -40,7 +34,7 @@ returns-2 c =
     let start = known .before .before .before .before in
     c .same-counts .ensures
     ∙ ap (sameCounts (start .args .counts .now)) (c .before .before .binate-counts .ensures)
-    ∙ ap (λ (o : Option ℕ). isBinateWith (functionOf (start .args .table)) o (state start)) (sym (place-is known))
+    ∙ ap (λ (o : Option ℕ). isBinateWith (functionOf (start .args .table)) o (start .args .counts .now)) (sym (place-is known))
 
 pub has-binate-counts-spec : {M : Type 1} → statement M
 has-binate-counts-spec =

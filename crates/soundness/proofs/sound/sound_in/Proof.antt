@@ -45,7 +45,7 @@ module _ (t : Table) (x : State) where
   parts Looped n = sym (and-assoc unateTrace (leb 2 (x .k)) (sameVector (x .v) (x .s)))
   parts Binate n = absurd n
 
-  binate-parts : (eqb (x .k) 0 && sameVector (x .v) zeroVector && sameVector (x .s) zeroVector && isBinateWith (functionOf t) (binatePlace (functionOf t)) x)
+  binate-parts : (eqb (x .k) 0 && sameVector (x .v) zeroVector && sameVector (x .s) zeroVector && isBinateWith (functionOf t) (binatePlace (functionOf t)) (x .counts))
       ≡ soundIn (functionOf t) Binate x
   unfolding soundIn
   binate-parts = refl
