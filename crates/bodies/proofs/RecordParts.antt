@@ -32,11 +32,11 @@ use Rattle.records.specs.Record.{Record, ofTable, ofGate, ofWitness, ofJob, fam
 
 -- the arrays of a record have the lengths of the code's types, as every value of those types has; a sound job's others are part of
 -- soundness
-abbrev pub Held : Record → Type 0
-Held (ofTable t) = length (t .bytes) ≡ 32
-Held (ofGate t g) = (length (t .bytes) ≡ 32) × (length (g .weights) ≡ 8)
-Held (ofWitness t w) = (length (t .bytes) ≡ 32) × (length (w .counts) ≡ 256)
-Held (ofJob j) = length (j .table .bytes) ≡ 32
+abbrev pub Shaped : Record → Type 0
+Shaped (ofTable t) = length (t .bytes) ≡ 32
+Shaped (ofGate t g) = (length (t .bytes) ≡ 32) × (length (g .weights) ≡ 8)
+Shaped (ofWitness t w) = (length (t .bytes) ≡ 32) × (length (w .counts) ≡ 256)
+Shaped (ofJob j) = length (j .table .bytes) ≡ 32
 
 -- the table that a record begins with, and what follows it
 abbrev pub tableIn : Record → Table

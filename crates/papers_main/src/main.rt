@@ -23,11 +23,11 @@ fn run(lines: &[u8]) {
 
 // Prints the number of functions, and whether the places past n were idle and 0 in all.
 fn summary(functions: u64, all_idle: bool) {
-    show::word(b"vectors");
+    show::word(b"functions");
     show::number(functions);
     show::word(b"\npast n: ");
     if all_idle {
-        show::word(b"idle and 0 in all vectors\n");
+        show::word(b"idle and 0 in all functions\n");
     } else {
         show::word(b"not idle or not 0\n");
     }

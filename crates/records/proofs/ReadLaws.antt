@@ -44,7 +44,7 @@ unfolding recordAt singleAt
 record-read s at =
     ap (λ (r : Reading Record). let b = recordField r in ended (b .read) s (b .next)) (after-kind bodyAt s (kindAt everyFamily s at)) ∙ body-ended s (recordAt everyFamily s at)
 
--- for the reader: a report's record is what is read where tables alone are taken
+-- a record of a report is what the definition of records gives where tables alone are taken; no proof cites it, it joins the two definitions
 pub table-alone : (s : List ℕ) (at : ℕ) → recordAt tablesAlone s at ≡ onward (tableRecordAt s at) (λ t next. answered (field (ofTable t) next))
 unfolding familyIn tableRecordAt bodyAt recordAt
 table-alone s at = by (ltb (length s) (at + 1)) (eqb (getD s at 0) 1)

@@ -1,8 +1,6 @@
 -- What reading a record gives (document 01, "Records" and "Who causes which number"). Definitions only. Assumes nothing.
 use mathlib.Core.List.{List, [], _∷_}
 use Prim.Native.Nat.{ℕ}
-use Rattle.types.specs.declared.gate.Gate.{Gate}
-use Rattle.types.specs.declared.witness.Witness.{Witness}
 use Rattle.cell.specs.Refusal.{Answered, answered, refused, andThen, checked}
 use Rattle.function.specs.Witness.{zeros}
 use Rattle.job.specs.declared.job.Job.{Job}

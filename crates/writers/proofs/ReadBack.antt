@@ -4,7 +4,7 @@ use mathlib.Core.Bool.{Bool, true, false, not}
 use mathlib.Core.List.{List, [], _∷_, _++_}
 use Prim.Native.Nat.{ℕ, _+_, _≤_}
 use native.Mathlib.Omega.{arith}
-use lib.ListN.{length, length-append}
+use lib.ListN.{length}
 use borrow.Author.Tests.{le-ltb}
 use Rattle.numbers.proofs.TestLaws.{no-true}
 use Rattle.types.specs.declared.table.Table.{Table}
@@ -39,7 +39,7 @@ use Rattle.codec.proofs.KindLaws.{every-taken, kind-read}
 use Rattle.codec.proofs.TableFieldLaws.{table-read}
 use Rattle.records.specs.Record.{Record, ofTable, ofGate, ofWitness, ofJob, family, gateVector, vectorGate, jobBytes, bodyBytes, recordBytes, gateAt, witnessAt, openJob, unsoundJob, countsAt, jobAt, afterTable, bodyAt, bytesLeft, recordAt, singleAt, readRecord}
 use Rattle.writers.specs.Calls.{tooShort, recordRules, writeRecord}
-use Rattle.bodies.proofs.RecordParts.{Held, kind-and-body, same-inputs, gate-in-limits, witness-fits, savable}
+use Rattle.bodies.proofs.RecordParts.{Shaped, kind-and-body, same-inputs, gate-in-limits, witness-fits, savable}
 use Rattle.bodies.proofs.BodyLaws.{job-bytes, job-count}
 use Rattle.writers.proofs.KeptLaws.{kept-open}
 
@@ -114,7 +114,7 @@ after-table rest x t w kept long s at inside stands later =
     ∙ ap (λ (next : ℕ). answered (field x next)) (after-both at table w)
 
 -- a body is read as its record, wherever it stands, by the family
-pub body-read : (x : Record) (others : List Rule) → Held x → NoneBroken (recordRules x others) → (s : List ℕ) (at : ℕ) → at ≤ length s
+pub body-read : (x : Record) (others : List Rule) → Shaped x → NoneBroken (recordRules x others) → (s : List ℕ) (at : ℕ) → at ≤ length s
     → Stands s at (bodyBytes x) → bodyAt (family x) s at ≡ answered (field x (at + length (bodyBytes x)))
 unfolding bodyBytes bodyAt
 body-read (ofTable t) others long kept s at inside stands =
@@ -128,9 +128,9 @@ body-read (ofJob j) others long kept s at inside stands =
     after-table jobAt (ofJob j) t (jobBytes j) (table-kept t kept) long s at inside stands (job-read j (kept-inputs t kept) (kept-sound j kept) (kept-open j others kept) s (at + length (tableBytes t)))
 
 -- a record's bytes, alone, are read as the record
-record-read : (x : Record) (others : List Rule) → Held x → NoneBroken (recordRules x others) → readRecord (recordBytes x) ≡ answered x
+record-read : (x : Record) (others : List Rule) → Shaped x → NoneBroken (recordRules x others) → readRecord (recordBytes x) ≡ answered x
 unfolding recordAt singleAt
-record-read x others held kept =
+record-read x others shaped kept =
     let s = recordBytes x in
     let f = family x in
     let kind = kindOf f ∷ [] in
@@ -138,7 +138,7 @@ record-read x others held kept =
     let stands : Stands s 0 (kind ++ body) = subst (Stands s 0) (kind-and-body x) (stands-self s) in
     let inside = stands-head s 0 (kindOf f) body stands in
     let first = kind-read everyFamily f s 0 body (every-taken f) stands in
-    let second = body-read x others held kept s (0 + 1) (omega (arith, inside .0)) (stands-back s 0 kind body stands) in
+    let second = body-read x others shaped kept s (0 + 1) (omega (arith, inside .0)) (stands-back s 0 kind body stands) in
     let whole : length s ≡ 1 + length body = omega (arith, ap length (kind-and-body x)) in
     ap (λ (r : Reading Family). onward (onward r (λ g p. bodyAt g s p)) (ended s)) first
     ∙ ap (λ (r : Reading Record). onward r (ended s)) second
@@ -148,8 +148,8 @@ record-read x others held kept =
     ended s y next = checked (bytesLeft s next ∷ []) (answered y)
 
 -- reading what was written gives the same record
-pub read-back : (x : Record) → Held x → (room : ℕ) (bytes : List ℕ) → writeRecord x room ≡ answered bytes → readRecord bytes ≡ answered x
-read-back x held room bytes e =
+pub read-back : (x : Record) → Shaped x → (room : ℕ) (bytes : List ℕ) → writeRecord x room ≡ answered bytes → readRecord bytes ≡ answered x
+read-back x shaped room bytes e =
     let rules = tooShort room (recordBytes x) ∷ [] in
     let kept = answered-none-broken (recordRules x rules) (recordBytes x) bytes e in
-    ap readRecord (sym (kept .1)) ∙ record-read x rules held (kept .0)
+    ap readRecord (sym (kept .1)) ∙ record-read x rules shaped (kept .0)

@@ -21,15 +21,6 @@ made start a new r e given fits =
     let line = made-by (now (start .args .out)) e given in
     (line, (made-bounded s (start .args .progress) (now (start .args .out)) (start .pre .0) (start .pre .1) line, fits))
 
-enum-told : tie.Need-enum-told
-enum-told c = search needs
-
-last-requires : tie.Need-last-requires
-last-requires c κs = search needs
-
-same-length : tie.Need-same-length
-same-length c = search needs
-
 returns : tie.Need-returns
 returns c =
     let told = c .before .before .before .before .before .before in
@@ -64,13 +55,13 @@ pub next-line-spec : {M : Type 1} → statement M
 next-line-spec =
     tie.close
     (tie.spec
-    enum-told
-    (λ c κs. search needs)
-    last-requires
     (λ c. search needs)
     (λ c κs. search needs)
+    (λ c κs. search needs)
     (λ c. search needs)
-    same-length
+    (λ c κs. search needs)
+    (λ c. search needs)
+    (λ c. search needs)
     returns
     (λ c. search needs)
     returns-2

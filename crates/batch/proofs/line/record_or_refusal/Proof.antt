@@ -22,9 +22,6 @@ use Rattle.batch.proofs.line.record_or_refusal.Tie as tie
 
 -- ---- a refusal
 
-same-length : tie.Need-same-length
-same-length c = search needs
-
 returns : tie.Need-returns
 returns c =
     let known = c .before .before .before .before .before in
@@ -35,9 +32,6 @@ returns c =
     (made-by (now (a .out)) (ap (advanceBy (a .at) (a .tally)) (sym was)) (call .ensures .0), call .ensures .1)
 
 -- ---- a record
-
-enum-told : tie.Need-enum-told
-enum-told c = search needs
 
 abbrev start-of : tie.After-enum-told → tie.Start
 start-of c = c .before .before .before .before .before
@@ -94,9 +88,9 @@ record-or-refusal-spec =
     (λ c κs. search needs)
     (λ c. search needs)
     (λ c κs. search needs)
-    same-length
+    (λ c. search needs)
     returns
-    enum-told
+    (λ c. search needs)
     decided-by-requires
     (λ c. search needs)
     record-line-requires

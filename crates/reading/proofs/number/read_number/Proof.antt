@@ -22,9 +22,6 @@ abbrev μ-loop : tie.MeasureT-loop
 loop-holds : tie.Need-loop-holds Inv-loop μ-loop
 loop-holds c = ahead-none (c .before .args .bytes .now) (c .before .args .at)
 
-no-number-requires : tie.Need-no-number-requires Inv-loop μ-loop
-no-number-requires c κs = search needs
-
 returns : tie.Need-returns Inv-loop μ-loop
 returns c =
     let in-loop = c .before .before in
@@ -110,7 +107,7 @@ read-number-spec =
     Inv-loop
     μ-loop
     loop-holds
-    no-number-requires
+    (λ c κs. search needs)
     returns
     (λ c. search needs)
     cast-byte

@@ -37,9 +37,6 @@ module _ (strict : Bool) (s : List ℕ) (at : ℕ) where
   after-number : {f : Field ℕ} {z : ℤ} → numberAt s at ≡ answered f → z ≡ signedOf (f .value) → ranged strict z (f .next) ≡ signedAt strict s at
   after-number e d = rw (e, d)
 
-no-signed-requires : tie.Need-no-signed-requires
-no-signed-requires c κs = search needs
-
 returns : tie.Need-returns
 returns c =
     let status = c .before .before in
@@ -47,9 +44,6 @@ returns c =
     let a = read .before .before .args in
     c .no-signed .ensures
     ∙ after-refused (a .strict) (a .bytes .now) (a .at) (number-refused _ (read .read-number .ensures) (status .status .given .1))
-
-enum-told : tie.Need-enum-told
-enum-told c = search needs
 
 -- the number is read
 number-is : (c : tie.After-enum-told) →
@@ -110,9 +104,9 @@ read-signed-spec =
     (tie.spec
     (λ c κs. search needs)
     (λ c. search needs)
-    no-signed-requires
+    (λ c κs. search needs)
     returns
-    enum-told
+    (λ c. search needs)
     signed-of-requires
     (λ c κs. search needs)
     (λ c κs. search needs)

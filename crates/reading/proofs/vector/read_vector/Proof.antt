@@ -20,15 +20,6 @@ abbrev μ-loop : tie.MeasureT-loop
 loop-holds : tie.Need-loop-holds Inv-loop μ-loop
 loop-holds c = let a = c .before .args in weights-none (a .strict) (a .n) (a .bytes .now) (a .at)
 
-read-signed-requires : tie.Need-read-signed-requires Inv-loop μ-loop
-read-signed-requires c κs = search needs
-
-enum-known-status : tie.Need-enum-known-status Inv-loop μ-loop
-enum-known-status c = search needs
-
-no-vector-requires : tie.Need-no-vector-requires Inv-loop μ-loop
-no-vector-requires c κs = search needs
-
 returns : tie.Need-returns Inv-loop μ-loop
 returns c =
     let read = c .before .before .before .before in
@@ -38,9 +29,6 @@ returns c =
     (ap vectorField
     (weight-refused (in-loop .before .loop .inv) (in-loop .loop-test .taken)
     (signed-refused _ (read .read-signed .ensures) (c .before .before .status .given .1))))
-
-enum-told : tie.Need-enum-told Inv-loop μ-loop
-enum-told c = search needs
 
 loop-again : tie.Need-loop-again Inv-loop μ-loop
 loop-again c =
@@ -77,11 +65,11 @@ read-vector-spec =
     Inv-loop
     μ-loop
     loop-holds
-    read-signed-requires
-    enum-known-status
-    no-vector-requires
+    (λ c κs. search needs)
+    (λ c. search needs)
+    (λ c κs. search needs)
     returns
-    enum-told
+    (λ c. search needs)
     (λ c. search needs)
     (λ c. search needs)
     (λ c. search needs)

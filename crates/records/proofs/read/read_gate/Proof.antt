@@ -29,9 +29,6 @@ returns c =
     c .no-body .ensures
     ∙ ap recordField (onward-refused (read at) (made (at .before .before .args .table)) (vector-refused (read at) (at .read-vector .ensures) (known .status .given .1)))
 
-enum-told : tie.Need-enum-told
-enum-told c = search needs
-
 returns-2 : tie.Need-returns-2
 returns-2 c =
     let zeros = c .before in
@@ -49,7 +46,7 @@ read-gate-spec =
     (λ c. search needs)
     (λ c κs. search needs)
     returns
-    enum-told
+    (λ c. search needs)
     (λ c κs. search needs)
     (λ c κs. search needs)
     returns-2)

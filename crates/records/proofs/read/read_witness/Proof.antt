@@ -43,9 +43,6 @@ returns c =
     let at = known .before .before in
     c .no-body .ensures ∙ ap recordField (onward-refused (list at) (made (table at)) (rows-refused (list at) (list-is at) (known .status .given .1)))
 
-enum-told : tie.Need-enum-told
-enum-told c = search needs
-
 returns-2 : tie.Need-returns-2
 returns-2 c =
     let told = c .before .before in
@@ -66,6 +63,6 @@ read-witness-spec =
     (λ c. search needs)
     (λ c κs. search needs)
     returns
-    enum-told
+    (λ c. search needs)
     (λ c κs. search needs)
     returns-2)

@@ -19,15 +19,6 @@ use Rattle.rowlists.proofs.read.read_pair.Tie as tie
 
 -- ---- the row
 
-read-number-requires : tie.Need-read-number-requires
-read-number-requires c κs = search needs
-
-enum-known-status : tie.Need-enum-known-status
-enum-known-status c = search needs
-
-no-pair-requires : tie.Need-no-pair-requires
-no-pair-requires c κs = search needs
-
 returns : tie.Need-returns
 returns c =
     let at = c .before .before .before .before in
@@ -37,9 +28,6 @@ returns c =
     ∙ ap pairField
     (pair-row-refused (a .strict) (a .rows) (a .lowest) s (a .at)
     (number-refused (numberAt s (a .at)) (at .read-number .ensures) (c .before .before .status .given .1)))
-
-enum-told : tie.Need-enum-told
-enum-told c = search needs
 
 abbrev start : tie.After-fits-row → tie.Start
 start c = c .before .before .before .before .before
@@ -142,11 +130,11 @@ pub read-pair-spec : {M : Type 1} → statement M
 read-pair-spec =
     tie.close
     (tie.spec
-    read-number-requires
-    enum-known-status
-    no-pair-requires
+    (λ c κs. search needs)
+    (λ c. search needs)
+    (λ c κs. search needs)
     returns
-    enum-told
+    (λ c. search needs)
     (λ c κs. search needs)
     (λ c κs. search needs)
     returns-2

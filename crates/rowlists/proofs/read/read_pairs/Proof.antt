@@ -47,9 +47,6 @@ returns c =
     (pair-refused (pair turn) (at .read-pair .ensures) (c .before .before .status .given .1))
     ∙ l .inv)
 
-enum-told : tie.Need-enum-told Inv-loop μ-loop
-enum-told c = search needs
-
 -- the pair was read
 read : (c : tie.After-enum-told Inv-loop μ-loop) → pair (head (c .before .before)) ≡ answered (pairOf (c .before .before .read-pair .result))
 read c = pair-done (pair (head (c .before .before))) (c .before .before .read-pair .ensures) (c .enum-told .given .1)
@@ -102,7 +99,7 @@ read-pairs-spec =
     (λ c. search needs)
     (λ c κs. search needs)
     returns
-    enum-told
+    (λ c. search needs)
     cast-row
     mul-counts
     array-write-counts

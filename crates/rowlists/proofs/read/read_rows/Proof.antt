@@ -12,9 +12,6 @@ use Rattle.rowlists.proofs.RowsLaws.{rows-length-refused, rows-length-b
 use Rattle.rowlists.proofs.read.read_rows.Statement.{statement}
 use Rattle.rowlists.proofs.read.read_rows.Tie as tie
 
-no-rows-requires : tie.Need-no-rows-requires
-no-rows-requires c κs = search needs
-
 returns : tie.Need-returns
 returns c =
     let at = c .before .before .before .before in
@@ -24,9 +21,6 @@ returns c =
     ∙ ap rowsField
     (rows-length-refused (a .strict) (a .rows) s (a .at)
     (number-refused (numberAt s (a .at)) (at .read-number .ensures) (c .before .before .status .given .1)))
-
-enum-told : tie.Need-enum-told
-enum-told c = search needs
 
 -- ---- past the length
 
@@ -65,9 +59,9 @@ read-rows-spec =
     (tie.spec
     (λ c κs. search needs)
     (λ c. search needs)
-    no-rows-requires
+    (λ c κs. search needs)
     returns
-    enum-told
+    (λ c. search needs)
     (λ c κs. search needs)
     (λ c κs. search needs)
     returns-2

@@ -7,12 +7,6 @@ use Rattle.codec.proofs.PairLaws.{pair-above}
 use Rattle.rowlists.proofs.write.pair_length.Statement.{statement}
 use Rattle.rowlists.proofs.write.pair_length.Tie as tie
 
-returns : tie.Need-returns
-returns c = search needs
-
-number-length-requires : tie.Need-number-length-requires
-number-length-requires c κs = search needs
-
 add-result : tie.Need-add-result
 add-result c =
     let a = c .before .before .before .args in
@@ -26,4 +20,4 @@ returns-2 c =
 pub pair-length-spec : {M : Type 1} → statement M
 pair-length-spec =
     tie.close
-    (tie.spec returns number-length-requires (λ c κs. search needs) add-result returns-2)
+    (tie.spec (λ c. search needs) (λ c κs. search needs) (λ c κs. search needs) add-result returns-2)

@@ -6,12 +6,13 @@ use lib.ListN.{drop}
 use borrow.Author.Needs.{needs}
 use borrow.Author.Tests.{le-leb, lt-leb, not-true, not-false}
 use Rattle.numbers.specs.Tests.{allAtMost}
+use Rattle.state.specs.Sound.{cap}
 use Rattle.table.proofs.TableLaws.{rows-le}
 use Rattle.soundness.proofs.sound.keeps_limits.Statement.{statement}
 use Rattle.soundness.proofs.sound.keeps_limits.Tie as tie
 
 returns : tie.Need-returns
-returns c = rw (lt-leb _ _ (c .if1 .taken))
+returns c = rw (lt-leb (c .before .args .core .k) cap (c .if1 .taken))
 
 vector-within-requires : tie.Need-vector-within-requires
 vector-within-requires c κs = search needs

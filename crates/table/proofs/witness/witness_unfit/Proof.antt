@@ -1,4 +1,6 @@
 -- `witness::witness_unfit` meets its contract: each `return` rewrites with the tests that led there. Assumes nothing.
+use mathlib.Core.Path.{ap}
+use mathlib.Core.Bool.{not}
 use native.Mathlib.Omega.{arith}
 use borrow.Author.Needs.{needs}
 use borrow.Author.Tests.{not-true, not-false}
@@ -36,8 +38,8 @@ returns-3 c =
       ← all-within .before .counts-within2 .ensures,
       not-false (all-within .before .counts-within2 .result) (all-within .if2 .left),
       ← c .before .row-count .ensures,
-      ← c .counts-within3 .ensures,
     )
+    (ap not (c .counts-within3 .ensures))
 
 pub witness-unfit-spec : {M : Type 1} → statement M
 witness-unfit-spec =

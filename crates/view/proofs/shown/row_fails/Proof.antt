@@ -31,9 +31,6 @@ returns c =
     let a = at .before .args in
     ap answer (job-refused (a .job) (at .job-status .ensures) (others (a .job) (a .row)) (verdict (a .job) (a .row)) (c .before .status .given .1))
 
-enum-told : tie.Need-enum-told
-enum-told c = search needs
-
 -- past the job's rules
 abbrev job : tie.After-enum-told → Job
 job c = c .before .before .before .args .job
@@ -75,7 +72,7 @@ row-fails-spec =
     (λ c κs. search needs)
     (λ c. search needs)
     returns
-    enum-told
+    (λ c. search needs)
     row-count-requires
     returns-2
     fails-at-requires

@@ -11,17 +11,11 @@ use Rattle.job.proofs.JobChecked.{job-refused, job-passed}
 use Rattle.view.proofs.shown.show.Statement.{statement}
 use Rattle.view.proofs.shown.show.Tie as tie
 
-shown-bare-requires : tie.Need-shown-bare-requires
-shown-bare-requires c κs = search needs
-
 returns : tie.Need-returns
 returns c =
     let at = c .before .before .before .before in
     let j = at .before .args .job in
     c .shown-bare .ensures ∙ ap shown (job-refused j (at .job-status .ensures) [] (answered (shownIn (j .state .stage) j)) (c .before .before .status .given .1))
-
-enum-told : tie.Need-enum-told
-enum-told c = search needs
 
 -- past the job's rules, in the job's stage
 abbrev job : tie.After-enum-told → Job
@@ -33,9 +27,6 @@ passed c x e is =
     e
     ∙ ap (λ (y : Stage). shownIn y j) (sym is)
     ∙ ap shown (job-passed j (c .before .before .job-status .ensures) [] (answered (shownIn (j .state .stage) j)) (c .enum-told .given .1))
-
-shown-witness-requires : tie.Need-shown-witness-requires
-shown-witness-requires c κs = search needs
 
 returns-2 : tie.Need-returns-2
 returns-2 c = passed (c .before .before .before .before) _ (c .shown-bare2 .ensures) (c .before .enum-told2 .given .1)
@@ -55,15 +46,15 @@ show-spec =
     (tie.spec
     (λ c κs. search needs)
     (λ c. search needs)
-    shown-bare-requires
+    (λ c κs. search needs)
     returns
-    enum-told
+    (λ c. search needs)
     (λ c. search needs)
     (λ c κs. search needs)
     (λ c. search needs)
     (λ c κs. search needs)
     (λ c. search needs)
-    shown-witness-requires
+    (λ c κs. search needs)
     (λ c. search needs)
     (λ c κs. search needs)
     returns-2

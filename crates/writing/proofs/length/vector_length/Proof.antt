@@ -24,12 +24,6 @@ abbrev μ-loop : tie.MeasureT-loop
 loop-holds : tie.Need-loop-holds Inv-loop μ-loop
 loop-holds c = (search needs, rw weights-zero)
 
-signed-code-requires : tie.Need-signed-code-requires Inv-loop μ-loop
-signed-code-requires c κs = search needs
-
-number-length-requires : tie.Need-number-length-requires Inv-loop μ-loop
-number-length-requires c κs = search needs
-
 add-length : tie.Need-add-length Inv-loop μ-loop
 add-length c =
     let head = c .before .before .before .before in
@@ -75,8 +69,8 @@ vector-length-spec =
     loop-holds
     (λ c. search needs)
     (λ c. search needs)
-    signed-code-requires
-    number-length-requires
+    (λ c κs. search needs)
+    (λ c κs. search needs)
     add-length
     (λ c. search needs)
     (λ c. search needs)

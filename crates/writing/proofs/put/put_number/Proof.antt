@@ -27,26 +27,14 @@ two c = ap length (number-two (c .before .before .args .x) (c .before .if1 .left
 three : (c : tie.Else2) → length (numberBytes (c .before .before .args .x)) ≡ 3
 three c = ap length (number-three (c .before .before .args .x) (c .if2 .left) (c .before .before .pre .0))
 
-cast-out : tie.Need-cast-out
-cast-out c = search needs
-
 slice-write-out : tie.Need-slice-write-out
 slice-write-out c = omega (arith, number-length (c .before .args .x))
-
-add-result : tie.Need-add-result
-add-result c = search needs
-
-same-length : tie.Need-same-length
-same-length c = search needs
 
 returns : tie.Need-returns
 returns c =
     let a = c .before .args in
     let e = number-one (a .x) (c .if1 .taken) in
     (omega (arith, ap length e), stored (now (a .out)) (a .at) (a .x) _ e (c .before .pre .1))
-
-add-out : tie.Need-add-out
-add-out c = search needs
 
 slice-write-out-2 : tie.Need-slice-write-out-2
 slice-write-out-2 c = omega (arith, number-length (c .before .args .x))
@@ -75,12 +63,12 @@ pub put-number-spec : {M : Type 1} → statement M
 put-number-spec =
     tie.close
     (tie.spec
-    cast-out
+    (λ c. search needs)
     slice-write-out
-    add-result
-    same-length
+    (λ c. search needs)
+    (λ c. search needs)
     returns
-    add-out
+    (λ c. search needs)
     (λ c. search needs)
     slice-write-out-2
     (λ c. search needs)

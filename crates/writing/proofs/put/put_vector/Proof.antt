@@ -59,9 +59,6 @@ a-room c = omega (arith, room c, length-append (a-bytes c) (b-bytes c))
 loop-holds : tie.Need-loop-holds Inv-loop μ-loop
 loop-holds c = (search needs, rw weights-zero (omega arith, sym (written-nil (now (c .before .before .args .out)) (c .before .before .args .at))))
 
-signed-code-requires : tie.Need-signed-code-requires Inv-loop μ-loop
-signed-code-requires c κs = search needs
-
 -- what the call says of the weight at a place
 code : (c : tie.After-signed-code Inv-loop μ-loop)
     → c .signed-code .result ≡ signedCode (getD (c .before .before .before .before .before .before .before .args .v .a) (c .before .before .before .before .loop .place) (pos 0))
@@ -132,7 +129,7 @@ put-vector-spec =
     loop-holds
     (λ c. search needs)
     (λ c. search needs)
-    signed-code-requires
+    (λ c κs. search needs)
     put-number-requires
     (λ c. search needs)
     (λ c. search needs)
