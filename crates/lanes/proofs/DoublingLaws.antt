@@ -23,11 +23,11 @@ use Rattle.lanes.proofs.SumsLaws.{place-low, place-high, sums-low, sums
 -- ---- the loop
 
 module _ (from half : ℕ) (weight : ℤ) (old : List ℤ) where
-  -- no sum is doubled before the first turn
+  -- no sum is doubled before the first round
   pub doubled-none : Doubled from half 0 weight old old
   doubled-none = record { size = refl; more = λ at l. absurd (omega arith); before = λ q l. refl; behind = λ q l. refl }
 
-  -- a store of a sum with the weight is one turn more
+  -- a store of a sum with the weight is one round more
   pub doubled-more : {new : List ℤ} (count : ℕ) (x : ℤ) → from + half + count < length new → x ≡ getD old (from + count) (pos 0) +ℤ weight
       → Doubled from half count weight old new
       → Doubled from half (count + 1) weight old (set new (from + half + count) x)

@@ -45,16 +45,10 @@ abbrev μ-loop : tie.MeasureT-loop
 loop-holds : tie.Need-loop-holds Inv-loop μ-loop
 loop-holds c = (omega arith, omega arith, within-zeros, within-zeros)
 
-mul-jobs : tie.Need-mul-jobs Inv-loop μ-loop
-mul-jobs c = search needs
-
 add-jobs : tie.Need-add-jobs Inv-loop μ-loop
 add-jobs c =
     let head = c .before .before .before .loop in
     omega (arith, head .inv .2 .1 (c .run .result .stage))
-
-mul-corrections : tie.Need-mul-corrections Inv-loop μ-loop
-mul-corrections c = search needs
 
 add-corrections : tie.Need-add-corrections Inv-loop μ-loop
 add-corrections c =
@@ -81,12 +75,12 @@ tally-of-spec =
     loop-holds
     (λ c κs. search needs)
     (λ c κs. search needs)
-    mul-jobs
+    (λ c. search needs)
     (λ c. search needs)
     add-jobs
     (λ c. search needs)
     (λ c. search needs)
-    mul-corrections
+    (λ c. search needs)
     (λ c. search needs)
     add-corrections
     (λ c. search needs)

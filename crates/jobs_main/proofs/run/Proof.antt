@@ -12,12 +12,6 @@ Inv-loop lines gates₀ witnesses₀ given-up₀ gates-k₀ at₀ gates witnesse
 abbrev μ-loop : tie.MeasureT-loop
 μ-loop lines gates₀ witnesses₀ given-up₀ gates-k₀ at₀ gates witnesses given-up gates-k at = length lines - at
 
-has-letter-requires : tie.Need-has-letter-requires Inv-loop μ-loop
-has-letter-requires c κs = search needs
-
-add-gates : tie.Need-add-gates Inv-loop μ-loop
-add-gates c = search needs
-
 pub run-spec : {M : Type 1} → statement M
 run-spec =
     tie.close
@@ -30,8 +24,8 @@ run-spec =
     (λ c. search needs)
     (λ c. search needs)
     (λ c κs. search needs)
-    has-letter-requires
-    add-gates
+    (λ c κs. search needs)
+    (λ c. search needs)
     (λ c κs. search needs)
     (λ c. search needs)
     (λ c κs. search needs)

@@ -12,18 +12,6 @@ Inv-loop is-saved out₀ job₀ left₀ calls₀ bytes₀ out job left calls byt
 abbrev μ-loop : tie.MeasureT-loop
 μ-loop is-saved out₀ job₀ left₀ calls₀ bytes₀ out job left calls bytes = left
 
-is-open-requires : tie.Need-is-open-requires Inv-loop μ-loop
-is-open-requires c κs = search needs
-
-wrapping-add-u64-requires : tie.Need-wrapping-add-u64-requires Inv-loop μ-loop
-wrapping-add-u64-requires c κs = search needs
-
-loop-less : tie.Need-loop-less Inv-loop μ-loop
-loop-less c = search needs
-
-loop-again : tie.Need-loop-again Inv-loop μ-loop
-loop-again c = search needs
-
 pub in-small-calls-spec : {M : Type 1} → statement M
 in-small-calls-spec =
     tie.close
@@ -31,17 +19,17 @@ in-small-calls-spec =
     Inv-loop
     μ-loop
     (λ c. search needs)
-    is-open-requires
     (λ c κs. search needs)
     (λ c κs. search needs)
-    (λ c. search needs)
-    wrapping-add-u64-requires
     (λ c κs. search needs)
     (λ c. search needs)
     (λ c κs. search needs)
     (λ c κs. search needs)
-    loop-less
-    loop-again
+    (λ c. search needs)
+    (λ c κs. search needs)
+    (λ c κs. search needs)
+    (λ c. search needs)
+    (λ c. search needs)
     (λ c. search needs)
     (λ c. search needs)
     (λ c. search needs))

@@ -218,9 +218,6 @@ loop-again c =
 
 -- ---- after the loop
 
-vector-of-requires : tie.Need-vector-of-requires Inv-loop μ-loop
-vector-of-requires c κs = search needs
-
 stage-of-requires : tie.Need-stage-of-requires Inv-loop μ-loop
 stage-of-requires c κs = c .before .before .before .before .before .loop .inv .known
 
@@ -263,7 +260,7 @@ chunk-spec =
     add-made
     (λ c. search needs)
     loop-again
-    vector-of-requires
+    (λ c κs. search needs)
     (λ c κs. search needs)
     stage-of-requires
     (λ c κs. search needs)

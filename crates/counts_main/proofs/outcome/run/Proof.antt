@@ -12,9 +12,6 @@ bool-byte-le : (b : Bool) → boolByte b ≤ 1
 bool-byte-le true = omega arith
 bool-byte-le false = omega arith
 
-is-done-requires : tie.Need-is-done-requires
-is-done-requires c κs = search needs
-
 returns : tie.Need-returns
 returns c = (search needs, search needs, bool-byte-le (c .before .before .before .if2 .accepted))
 
@@ -24,7 +21,7 @@ run-spec =
     (tie.spec
     (λ c κs. search needs)
     (λ c κs. search needs)
-    is-done-requires
+    (λ c κs. search needs)
     (λ c κs. search needs)
     (λ c κs. search needs)
     (λ c κs. search needs)

@@ -11,9 +11,6 @@ Inv-loop n v place₀ place = Unit {0}
 abbrev μ-loop : tie.MeasureT-loop
 μ-loop n v place₀ place = 8 - place
 
-signed-requires : tie.Need-signed-requires Inv-loop μ-loop
-signed-requires c κs = search needs
-
 pub vector-spec : {M : Type 1} → statement M
 vector-spec =
     tie.close
@@ -23,7 +20,7 @@ vector-spec =
     (λ c. search needs)
     (λ c. search needs)
     (λ c. search needs)
-    signed-requires
+    (λ c κs. search needs)
     (λ c. search needs)
     (λ c. search needs)
     (λ c. search needs)

@@ -11,9 +11,6 @@ Inv-loop n weights place₀ place = Unit {0}
 abbrev μ-loop : tie.MeasureT-loop
 μ-loop n weights place₀ place = 8 - place
 
-returns : tie.Need-returns Inv-loop μ-loop
-returns c = search needs
-
 pub show-weights-spec : {M : Type 1} → statement M
 show-weights-spec =
     tie.close
@@ -27,5 +24,5 @@ show-weights-spec =
     (λ c. search needs)
     (λ c. search needs)
     (λ c. search needs)
-    returns
+    (λ c. search needs)
     (λ c. search needs))

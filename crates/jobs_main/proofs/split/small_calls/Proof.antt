@@ -11,9 +11,6 @@ Inv-loop job₀ made₀ budget₀ job made budget = (budget ≤ 401) × (made �
 abbrev μ-loop : tie.MeasureT-loop
 μ-loop job₀ made₀ budget₀ job made budget = 401 - budget
 
-returns : tie.Need-returns Inv-loop μ-loop
-returns c = search needs
-
 pub small-calls-spec : {M : Type 1} → statement M
 small-calls-spec =
     tie.close
@@ -29,5 +26,5 @@ small-calls-spec =
     (λ c. search needs)
     (λ c. search needs)
     (λ c. search needs)
-    returns
+    (λ c. search needs)
     (λ c. search needs))

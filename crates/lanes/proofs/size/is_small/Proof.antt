@@ -59,7 +59,7 @@ next-size : (c : tie.After-absolute2 Inv-loop μ-loop)
     → c .absolute2 .result ≡ sizeAt (start (c .before) .args .v .a) (c .before .before .before .loop .place)
 next-size c = c .absolute2 .ensures ∙ ap natAbs (weight-read (c .before))
 
--- the sum after the turn
+-- the sum after the round
 next-sum : (c : tie.After-absolute2 Inv-loop μ-loop)
     → let head = c .before .before .before in
     let size = sizeAt (start (c .before) .args .v .a) in

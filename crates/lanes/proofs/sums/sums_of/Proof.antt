@@ -82,7 +82,7 @@ loop-holds c = (
 sums-so-far : (c : tie.At-loop Inv-loop μ-loop) → SumsTo (vector (c .before) .a) (vector (c .before) .b) (c .loop .place) (c .loop .sums)
 sums-so-far c = rw (threshold-is (c .before)) at (c .loop .inv .1)
 
--- the weight of the turn, and its size
+-- the weight of the round, and its size
 abbrev weight : tie.At-loop Inv-loop μ-loop → ℤ
 weight c = getD (vector (c .before) .a) (c .loop .place) (pos 0)
 
@@ -99,7 +99,7 @@ weight-read c = cast-read (weight (c .before)) (small c)
 -- ---- a low input
 
 cast-double : tie.Need-cast-double Inv-loop μ-loop
-cast-double c = let turn = c .before .before .before in cast-fits (weight (turn .before)) (small turn)
+cast-double c = let round = c .before .before .before in cast-fits (weight (round .before)) (small round)
 
 low-shift : (c : tie.Then1 Inv-loop μ-loop) → let place = c .before .before .loop .place in 1 * 2 ^ place % 2 ^ 64 ≡ 2 ^ place
 low-shift c = one-shifted (c .before .before .loop .place) (omega arith)
@@ -128,7 +128,7 @@ low-next c =
 -- ---- a higher input
 
 cast-double-2 : tie.Need-cast-double-2 Inv-loop μ-loop
-cast-double-2 c = let turn = c .before .before .before in cast-fits (weight (turn .before)) (small turn)
+cast-double-2 c = let round = c .before .before .before in cast-fits (weight (round .before)) (small round)
 
 high-shift : (c : tie.Else1 Inv-loop μ-loop) → let k = c .before .before .loop .place - 5 in 1 * 2 ^ k % 2 ^ 64 ≡ 2 ^ k
 high-shift c = one-shifted (c .before .before .loop .place - 5) (omega arith)

@@ -11,9 +11,6 @@ Inv-loop line calls₀ state₀ made₀ calls state made = Unit {0}
 abbrev μ-loop : tie.MeasureT-loop
 μ-loop line calls₀ state₀ made₀ calls state made = 300 - made
 
-after-requires : tie.Need-after-requires Inv-loop μ-loop
-after-requires c κs = search needs
-
 pub calls-on-spec : {M : Type 1} → statement M
 calls-on-spec =
     tie.close
@@ -22,7 +19,7 @@ calls-on-spec =
     μ-loop
     (λ c κs. search needs)
     (λ c. search needs)
-    after-requires
+    (λ c κs. search needs)
     (λ c κs. search needs)
     (λ c κs. search needs)
     (λ c. search needs)

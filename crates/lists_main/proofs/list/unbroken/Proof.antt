@@ -10,9 +10,6 @@ Inv-loop budgets most next₀ left₀ next left = Unit {0}
 abbrev μ-loop : tie.MeasureT-loop
 μ-loop budgets most next₀ left₀ next left = left
 
-carry-on-requires : tie.Need-carry-on-requires Inv-loop μ-loop
-carry-on-requires c κs = search needs
-
 pub unbroken-spec : {M : Type 1} → statement M
 unbroken-spec =
     tie.close
@@ -21,7 +18,7 @@ unbroken-spec =
     μ-loop
     (λ c. search needs)
     (λ c. search needs)
-    carry-on-requires
+    (λ c κs. search needs)
     (λ c. search needs)
     (λ c. search needs)
     (λ c. search needs)

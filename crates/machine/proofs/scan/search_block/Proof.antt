@@ -84,10 +84,10 @@ cast-fails-by c = wide-fits tt (add-distance (c .before))
 
 -- what is tested is whether the row fails
 row-fails : (c : tie.After-fails-by Inv-loop μ-loop)
-    → let turn = c .before .before in c .fails-by .result ≡ failsAt (start turn .args .values .now) (made (start turn)) (row turn)
+    → let round = c .before .before in c .fails-by .result ≡ failsAt (start round .args .values .now) (made (start round)) (row round)
 row-fails c =
-    let turn = c .before .before in
-    fails-at-test _ _ _ (c .fails-by .ensures) (wide-back w64 tt (add-distance turn) ∙ sum-made turn)
+    let round = c .before .before in
+    fails-at-test _ _ _ (c .fails-by .ensures) (wide-back w64 tt (add-distance round) ∙ sum-made round)
 
 -- the contract's distances and search
 made-is : (c : tie.Start Inv-loop μ-loop) → made c ≡ doubled (c .args .half) (c .args .weight) (c .args .distances .now)
@@ -102,30 +102,30 @@ search-is c e = ap lowestOf (sym e ∙ ap (search-by c) (made-is c))
 
 returns : tie.Need-returns Inv-loop μ-loop
 returns c =
-    let turn = c .before .before .before in
-    let a = start turn .args in (
-      search-is (start turn)
-          (first-at (failsAt (a .values .now) (made (start turn))) (a .half) (a .half) (row turn)
+    let round = c .before .before .before in
+    let a = start round .args in (
+      search-is (start round)
+          (first-at (failsAt (a .values .now) (made (start round))) (a .half) (a .half) (row round)
           record {
             start = omega arith;
             inside = omega arith;
             passes = sym (row-fails (c .before)) ∙ c .if1 .taken;
-            before = turn .before .before .loop .inv .2 .none-fails;
+            before = round .before .before .loop .inv .2 .none-fails;
           }),
       λ e. absurd (at-somewhere e),
     )
 
 loop-again : tie.Need-loop-again Inv-loop μ-loop
 loop-again c =
-    let turn = c .before .before .before in
-    let at-head = turn .before .before .loop in
-    let a = start turn .args in
+    let round = c .before .before .before in
+    let at-head = round .before .before .loop in
+    let a = start round .args in
     let passes = sym (row-fails (c .before)) ∙ c .if1 .left in (
       omega arith,
       simp length-set (at-head .inv .1),
       rw (← add-assoc (a .half) (at-head .at) 1)
-          (passed-more (a .values .now) (made (start turn)) (a .half) (row turn) (at-head .distances) _
-          (omega arith) (toZ-ofZ (add-distance turn) ∙ sum-made turn) passes (at-head .inv .2)),
+          (passed-more (a .values .now) (made (start round)) (a .half) (row round) (at-head .distances) _
+          (omega arith) (toZ-ofZ (add-distance round) ∙ sum-made round) passes (at-head .inv .2)),
     )
 
 returns-2 : tie.Need-returns-2 Inv-loop μ-loop

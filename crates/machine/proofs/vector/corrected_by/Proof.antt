@@ -104,9 +104,9 @@ target c = getD (corrected (c .before .before .before) .a) (c .before .loop .pla
 sum-is : (c : tie.After-next Inv-loop μ-loop)
     → toZ w32 (ofZ w32 (here (c .before .before))) +ℤ toZ w32 (c .before .before .before .before .if1 .step) ≡ target (c .before .before)
 sum-is c =
-    let turn = c .before .before in
-    ap₂ _+ℤ_ (toZ-ofZ (record { sfits = c .next .given }) ∙ here-is turn) (step-is (turn .before .before))
-    ∙ sym (weight-true _ _ _ _ (in-weights turn) (c .before .if2 .taken))
+    let round = c .before .before in
+    ap₂ _+ℤ_ (toZ-ofZ (record { sfits = c .next .given }) ∙ here-is round) (step-is (round .before .before))
+    ∙ sym (weight-true _ _ _ _ (in-weights round) (c .before .if2 .taken))
 
 add-next : tie.Need-add-next Inv-loop μ-loop
 add-next c =

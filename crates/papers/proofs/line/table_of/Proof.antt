@@ -11,19 +11,13 @@ Inv-loop line n digits bytes₀ at₀ bytes at = Unit {0}
 abbrev μ-loop : tie.MeasureT-loop
 μ-loop line n digits bytes₀ at₀ bytes at = 64 - at
 
-word-requires : tie.Need-word-requires Inv-loop μ-loop
-word-requires c κs = search needs
-
-returns : tie.Need-returns Inv-loop μ-loop
-returns c = search needs
-
 pub table-of-spec : {M : Type 1} → statement M
 table-of-spec =
     tie.close
     (tie.spec
     Inv-loop
     μ-loop
-    word-requires
+    (λ c κs. search needs)
     (λ c κs. search needs)
     (λ c. search needs)
     (λ c κs. search needs)
@@ -35,5 +29,5 @@ table-of-spec =
     (λ c. search needs)
     (λ c. search needs)
     (λ c. search needs)
-    returns
+    (λ c. search needs)
     (λ c. search needs))

@@ -47,9 +47,6 @@ cast-number c =
     let x-is = wide-back w64 tt (start .fits .x) in
     rw x-is (unsigned (start .args .x) (fits-size (start .fits .x)) (omega (integers, rw x-is at (c .if1 .left))))
 
-returns : tie.Need-returns
-returns c = search needs
-
 pub signed-spec : {M : Type 1} → statement M
 signed-spec =
     tie.close
@@ -62,5 +59,5 @@ signed-spec =
     (λ c κs. search needs)
     cast-number
     (λ c κs. search needs)
-    returns
+    (λ c. search needs)
     (λ c. search needs))

@@ -12,9 +12,6 @@ Inv-loop word value₀ at₀ value at = Unit {0}
 abbrev μ-loop : tie.MeasureT-loop
 μ-loop word value₀ at₀ value at = length word - at
 
-returns : tie.Need-returns Inv-loop μ-loop
-returns c = search needs
-
 pub number-spec : {M : Type 1} → statement M
 number-spec =
     tie.close
@@ -27,5 +24,5 @@ number-spec =
     (λ c. search needs)
     (λ c. search needs)
     (λ c. search needs)
-    returns
+    (λ c. search needs)
     (λ c. search needs))

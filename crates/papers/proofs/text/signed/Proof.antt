@@ -9,20 +9,11 @@ use Rattle.numbers.proofs.Widths.{size-fits}
 use Rattle.papers.proofs.text.signed.Statement.{statement}
 use Rattle.papers.proofs.text.signed.Tie as tie
 
-number-requires : tie.Need-number-requires
-number-requires c κs = search needs
-
-cast-result : tie.Need-cast-result
-cast-result c = search needs
-
 sub-result : tie.Need-sub-result
 sub-result c =
     let n = c .number .result in
     rw (toZ-pos w32 {n = n} (omega (arith, c .number .ok)))
     (size-fits (omega (arith, c .number .ok, parts-sub (pos 0) (pos n), one-part (pos 0 -ℤ pos n))))
-
-returns : tie.Need-returns
-returns c = search needs
 
 pub signed-spec : {M : Type 1} → statement M
 signed-spec =
@@ -32,10 +23,10 @@ signed-spec =
     (λ c. search needs)
     (λ c. search needs)
     (λ c. search needs)
-    number-requires
-    cast-result
+    (λ c κs. search needs)
+    (λ c. search needs)
     sub-result
-    returns
+    (λ c. search needs)
     (λ c κs. search needs)
     (λ c. search needs)
     (λ c. search needs))

@@ -12,9 +12,6 @@ Inv-loop line k left₀ at₀ left at = at ≤ length line
 abbrev μ-loop : tie.MeasureT-loop
 μ-loop line k left₀ at₀ left at = length line - at
 
-returns : tie.Need-returns Inv-loop μ-loop
-returns c = search needs
-
 pub word-start-spec : {M : Type 1} → statement M
 word-start-spec =
     tie.close
@@ -22,7 +19,7 @@ word-start-spec =
     Inv-loop
     μ-loop
     (λ c. search needs)
-    returns
+    (λ c. search needs)
     (λ c. search needs)
     (λ c. search needs)
     (λ c. search needs)

@@ -11,9 +11,6 @@ Inv-loop table gate row₀ row = Unit {0}
 abbrev μ-loop : tie.MeasureT-loop
 μ-loop table gate row₀ row = 256 - row
 
-returns : tie.Need-returns Inv-loop μ-loop
-returns c = search needs
-
 pub agreeing-rows-spec : {M : Type 1} → statement M
 agreeing-rows-spec =
     tie.close
@@ -27,5 +24,5 @@ agreeing-rows-spec =
     (λ c. search needs)
     (λ c. search needs)
     (λ c. search needs)
-    returns
+    (λ c. search needs)
     (λ c. search needs))

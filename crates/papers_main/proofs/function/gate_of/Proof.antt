@@ -11,12 +11,6 @@ Inv-loop n numbers weights₀ place₀ weights place = Unit {0}
 abbrev μ-loop : tie.MeasureT-loop
 μ-loop n numbers weights₀ place₀ weights place = 8 - place
 
-word-requires : tie.Need-word-requires Inv-loop μ-loop
-word-requires c κs = search needs
-
-signed-requires : tie.Need-signed-requires Inv-loop μ-loop
-signed-requires c κs = search needs
-
 pub gate-of-spec : {M : Type 1} → statement M
 gate-of-spec =
     tie.close
@@ -25,8 +19,8 @@ gate-of-spec =
     μ-loop
     (λ c. search needs)
     (λ c. search needs)
-    word-requires
-    signed-requires
+    (λ c κs. search needs)
+    (λ c κs. search needs)
     (λ c. search needs)
     (λ c. search needs)
     (λ c. search needs)

@@ -11,9 +11,6 @@ Inv-loop n q places place₀ place = Unit {0}
 abbrev μ-loop : tie.MeasureT-loop
 μ-loop n q places place₀ place = 8 - place
 
-returns : tie.Need-returns Inv-loop μ-loop
-returns c = search needs
-
 pub past-is-idle-spec : {M : Type 1} → statement M
 past-is-idle-spec =
     tie.close
@@ -25,7 +22,7 @@ past-is-idle-spec =
     (λ c. search needs)
     (λ c. search needs)
     (λ c κs. search needs)
-    returns
+    (λ c. search needs)
     (λ c. search needs)
     (λ c. search needs)
     (λ c. search needs)

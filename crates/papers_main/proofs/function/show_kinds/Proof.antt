@@ -11,9 +11,6 @@ Inv-loop n places place₀ place = Unit {0}
 abbrev μ-loop : tie.MeasureT-loop
 μ-loop n places place₀ place = 8 - place
 
-returns : tie.Need-returns Inv-loop μ-loop
-returns c = search needs
-
 pub show-kinds-spec : {M : Type 1} → statement M
 show-kinds-spec =
     tie.close
@@ -26,5 +23,5 @@ show-kinds-spec =
     (λ c. search needs)
     (λ c. search needs)
     (λ c. search needs)
-    returns
+    (λ c. search needs)
     (λ c. search needs))

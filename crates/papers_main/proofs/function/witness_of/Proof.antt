@@ -11,12 +11,6 @@ Inv-loop rows once counts₀ count₀ k₀ counts count k = Unit {0}
 abbrev μ-loop : tie.MeasureT-loop
 μ-loop rows once counts₀ count₀ k₀ counts count k = 8 - k
 
-word-requires : tie.Need-word-requires Inv-loop μ-loop
-word-requires c κs = search needs
-
-returns : tie.Need-returns Inv-loop μ-loop
-returns c = search needs
-
 pub witness-of-spec : {M : Type 1} → statement M
 witness-of-spec =
     tie.close
@@ -24,14 +18,14 @@ witness-of-spec =
     Inv-loop
     μ-loop
     (λ c. search needs)
-    word-requires
     (λ c κs. search needs)
     (λ c κs. search needs)
+    (λ c κs. search needs)
     (λ c. search needs)
     (λ c. search needs)
     (λ c. search needs)
     (λ c. search needs)
     (λ c. search needs)
     (λ c. search needs)
-    returns
+    (λ c. search needs)
     (λ c. search needs))

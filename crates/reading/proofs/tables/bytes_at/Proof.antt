@@ -21,8 +21,8 @@ array-write-own c = omega arith
 loop-again : tie.Need-loop-again Inv-loop μ-loop
 loop-again c =
     let a = c .before .before .before .args in
-    let turn = c .before .before .loop in
-    (omega arith, rw (turn .inv .1) (copied-more (replicate 32 0) (a .bytes .now) (a .at) (turn .i) (array-write-own c) (omega arith)))
+    let round = c .before .before .loop in
+    (omega arith, rw (round .inv .1) (copied-more (replicate 32 0) (a .bytes .now) (a .at) (round .i) (array-write-own c) (omega arith)))
 
 returns : tie.Need-returns Inv-loop μ-loop
 returns c =

@@ -39,15 +39,9 @@ tested t k v w list next =
 
 -- ---- the row list
 
-rows-of-requires : tie.Need-rows-of-requires
-rows-of-requires c κs = search needs
-
 read-rows-requires : tie.Need-read-rows-requires
 read-rows-requires c κs =
     omega (arith, c .rows-of .ensures, rows-le (c .before .before .pre))
-
-no-body-requires : tie.Need-no-body-requires
-no-body-requires c κs = search needs
 
 abbrev list : tie.After-read-rows → Reading RowList
 list c = let a = c .before .before .before .args in rowListAt false (rows (a .table)) (a .bytes .now) (a .at)
@@ -136,10 +130,10 @@ pub read-counts-spec : {M : Type 1} → statement M
 read-counts-spec =
     tie.close
     (tie.spec
-    rows-of-requires
+    (λ c κs. search needs)
     read-rows-requires
     (λ c. search needs)
-    no-body-requires
+    (λ c κs. search needs)
     returns
     enum-told
     (λ c κs. search needs)

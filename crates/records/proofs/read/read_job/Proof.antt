@@ -29,12 +29,6 @@ current t bytes k p = onward (vectorAt false (t .n) bytes p) (copied t bytes k)
 
 -- ---- K
 
-enum-known-status : tie.Need-enum-known-status
-enum-known-status c = search needs
-
-no-body-requires : tie.Need-no-body-requires
-no-body-requires c κs = search needs
-
 returns : tie.Need-returns
 returns c =
     let known = c .before .before in
@@ -133,8 +127,8 @@ read-job-spec =
     tie.close
     (tie.spec
     (λ c κs. search needs)
-    enum-known-status
-    no-body-requires
+    (λ c. search needs)
+    (λ c κs. search needs)
     returns
     enum-told
     read-vector-requires

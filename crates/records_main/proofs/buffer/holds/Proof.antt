@@ -11,9 +11,6 @@ Inv-loop bytes buffer at₀ at = Unit {0}
 abbrev μ-loop : tie.MeasureT-loop
 μ-loop bytes buffer at₀ at = 1300 - at
 
-returns : tie.Need-returns Inv-loop μ-loop
-returns c = search needs
-
 pub holds-spec : {M : Type 1} → statement M
 holds-spec =
     tie.close
@@ -23,7 +20,7 @@ holds-spec =
     (λ c. search needs)
     (λ c. search needs)
     (λ c. search needs)
-    returns
+    (λ c. search needs)
     (λ c. search needs)
     (λ c. search needs)
     (λ c. search needs)

@@ -12,9 +12,6 @@ Inv-loop bytes at₀ at = Unit {0}
 abbrev μ-loop : tie.MeasureT-loop
 μ-loop bytes at₀ at = length bytes - at
 
-hex-digit-requires : tie.Need-hex-digit-requires Inv-loop μ-loop
-hex-digit-requires c κs = search needs
-
 pub hex-spec : {M : Type 1} → statement M
 hex-spec =
     tie.close
@@ -23,7 +20,7 @@ hex-spec =
     μ-loop
     (λ c. search needs)
     (λ c. search needs)
-    hex-digit-requires
+    (λ c κs. search needs)
     (λ c κs. search needs)
     (λ c. search needs)
     (λ c κs. search needs)

@@ -11,16 +11,13 @@ Inv-loop line digits bytes₀ at₀ bytes at = Unit {0}
 abbrev μ-loop : tie.MeasureT-loop
 μ-loop line digits bytes₀ at₀ bytes at = 128 - at
 
-word-requires : tie.Need-word-requires Inv-loop μ-loop
-word-requires c κs = search needs
-
 pub string-spec : {M : Type 1} → statement M
 string-spec =
     tie.close
     (tie.spec
     Inv-loop
     μ-loop
-    word-requires
+    (λ c κs. search needs)
     (λ c. search needs)
     (λ c. search needs)
     (λ c. search needs)

@@ -11,9 +11,6 @@ Inv-loop q at₀ at = Unit {0}
 abbrev μ-loop : tie.MeasureT-loop
 μ-loop q at₀ at = 8 - at
 
-returns : tie.Need-returns Inv-loop μ-loop
-returns c = search needs
-
 pub all-0-spec : {M : Type 1} → statement M
 all-0-spec =
     tie.close
@@ -23,7 +20,7 @@ all-0-spec =
     (λ c. search needs)
     (λ c. search needs)
     (λ c. search needs)
-    returns
+    (λ c. search needs)
     (λ c. search needs)
     (λ c. search needs)
     (λ c. search needs)

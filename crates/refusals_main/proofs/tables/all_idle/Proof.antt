@@ -11,9 +11,6 @@ Inv-loop places at₀ at = Unit {0}
 abbrev μ-loop : tie.MeasureT-loop
 μ-loop places at₀ at = 8 - at
 
-returns : tie.Need-returns Inv-loop μ-loop
-returns c = search needs
-
 pub all-idle-spec : {M : Type 1} → statement M
 all-idle-spec =
     tie.close
@@ -23,7 +20,7 @@ all-idle-spec =
     (λ c. search needs)
     (λ c. search needs)
     (λ c κs. search needs)
-    returns
+    (λ c. search needs)
     (λ c. search needs)
     (λ c. search needs)
     (λ c. search needs)

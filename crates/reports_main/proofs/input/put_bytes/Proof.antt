@@ -1,4 +1,4 @@
--- `input::put_bytes` is safe and ends. From turn to turn the place is at least 1; the measure is the number of digits left.
+-- `input::put_bytes` is safe and ends. From round to round the place is at least 1; the measure is the number of digits left.
 -- Assumes nothing.
 use Prim.Native.Nat.{_-_, _≤_}
 use lib.ListN.{length}
@@ -12,12 +12,6 @@ Inv-loop out₀ at digits next₀ place₀ out next place = 1 ≤ place
 abbrev μ-loop : tie.MeasureT-loop
 μ-loop out₀ at digits next₀ place₀ out next place = length digits - place
 
-shared-slice-read-digit : tie.Need-shared-slice-read-digit Inv-loop μ-loop
-shared-slice-read-digit c = search needs
-
-digit-requires : tie.Need-digit-requires Inv-loop μ-loop
-digit-requires c κs = search needs
-
 pub put-bytes-spec : {M : Type 1} → statement M
 put-bytes-spec =
     tie.close
@@ -26,8 +20,8 @@ put-bytes-spec =
     μ-loop
     (λ c. search needs)
     (λ c. search needs)
-    shared-slice-read-digit
-    digit-requires
+    (λ c. search needs)
+    (λ c κs. search needs)
     (λ c. search needs)
     (λ c κs. search needs)
     (λ c κs. search needs)

@@ -10,9 +10,6 @@ Inv-loop out₀ line next₀ k₀ out next k = Unit {0}
 abbrev μ-loop : tie.MeasureT-loop
 μ-loop out₀ line next₀ k₀ out next k = 9 - k
 
-word-requires : tie.Need-word-requires Inv-loop μ-loop
-word-requires c κs = search needs
-
 pub put-parts-spec : {M : Type 1} → statement M
 put-parts-spec =
     tie.close
@@ -20,7 +17,7 @@ put-parts-spec =
     Inv-loop
     μ-loop
     (λ c. search needs)
-    word-requires
+    (λ c κs. search needs)
     (λ c κs. search needs)
     (λ c. search needs)
     (λ c κs. search needs)

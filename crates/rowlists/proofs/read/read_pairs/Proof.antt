@@ -38,13 +38,13 @@ pair c = let a = c .before .before .args in pairAt (a .strict) (a .rows) (c .loo
 returns : tie.Need-returns Inv-loop μ-loop
 returns c =
     let at = c .before .before .before .before in
-    let turn = head at in
-    let a = turn .before .before .args in
-    let l = turn .loop in
+    let round = head at in
+    let a = round .before .before .args in
+    let l = round .loop in
     c .no-rows .ensures
     ∙ ap rowsField
-    (pairs-refused (a .strict) (a .rows) (l .left) (l .lowest) (list turn) (a .bytes .now) (l .here) (omega arith)
-    (pair-refused (pair turn) (at .read-pair .ensures) (c .before .before .status .given .1))
+    (pairs-refused (a .strict) (a .rows) (l .left) (l .lowest) (list round) (a .bytes .now) (l .here) (omega arith)
+    (pair-refused (pair round) (at .read-pair .ensures) (c .before .before .status .given .1))
     ∙ l .inv)
 
 -- the pair was read
@@ -54,11 +54,11 @@ read c = pair-done (pair (head (c .before .before))) (c .before .before .read-pa
 -- a row in range is one of the 256
 below : (c : tie.Then1 Inv-loop μ-loop) → c .before .before .before .read-pair .result .row < 256
 below c =
-    let turn = head (c .before .before .before) in
-    let a = turn .before .before .args in
-    let l = turn .loop in
+    let round = head (c .before .before .before) in
+    let a = round .before .before .args in
+    let l = round .loop in
     let p = pairOf (c .before .before .before .read-pair .result) in
-    omega (arith, pair-fits-row (a .strict) (a .rows) (l .lowest) (a .bytes .now) (l .here) p (read (c .before)) (c .if1 .taken), turn .before .before .pre)
+    omega (arith, pair-fits-row (a .strict) (a .rows) (l .lowest) (a .bytes .now) (l .here) p (read (c .before)) (c .if1 .taken), round .before .before .pre)
 
 cast-row : tie.Need-cast-row Inv-loop μ-loop
 cast-row c = omega (arith, below (c .before))
@@ -74,12 +74,12 @@ add-lowest c = omega (arith, below (c .before .before))
 
 loop-again : tie.Need-loop-again Inv-loop μ-loop
 loop-again c =
-    let turn = head (c .before .before .before) in
-    let a = turn .before .before .args in
-    let l = turn .loop in
+    let round = head (c .before .before .before) in
+    let a = round .before .before .args in
+    let l = round .loop in
     let some : 0 < l .left = omega arith in
-    let stored = pairs-stored (a .strict) (a .rows) (l .left) (l .lowest) (list turn) (a .bytes .now) (l .here) some (read (c .before)) in
-    let passed = pairs-passed (a .strict) (a .rows) (l .left) (l .lowest) (list turn) (a .bytes .now) (l .here) some (read (c .before)) in
+    let stored = pairs-stored (a .strict) (a .rows) (l .left) (l .lowest) (list round) (a .bytes .now) (l .here) some (read (c .before)) in
+    let passed = pairs-passed (a .strict) (a .rows) (l .left) (l .lowest) (list round) (a .bytes .now) (l .here) some (read (c .before)) in
     ⊎-elim (λ w. rw (w .3, w .4, w .5) (stored (w .0 .taken) ∙ l .inv)) (λ w. rw (w .1, w .2, w .3) (passed (w .0 .left) ∙ l .inv)) (c .if1 .came)
 
 returns-2 : tie.Need-returns-2 Inv-loop μ-loop

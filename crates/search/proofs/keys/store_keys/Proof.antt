@@ -48,7 +48,7 @@ double : (c : tie.In-loop Inv-loop μ-loop) → toZ w16 (ofZ w16 (toZ w16 (row c
 double c = toZ-ofZ (mul-double c) ∙ twice c
 
 add-key : tie.Need-add-key Inv-loop μ-loop
-add-key c = let turn = c .before .before in rw (double turn) (size-fits {z = pos (2 * row turn + 1)} (omega arith))
+add-key c = let round = c .before .before in rw (double round) (size-fits {z = pos (2 * row round + 1)} (omega arith))
 
 -- a number less one of at most 32,768 is one of 16 bits
 low-fits : (m less : ℕ) → m < 32768 → less ≤ 32768 → SFits w16 (pos m -ℤ pos less)
@@ -56,45 +56,45 @@ low-fits m less h k = let parts = parts-sub (pos m) (pos less) in parts-fits {a 
 
 sub-key : tie.Need-sub-key Inv-loop μ-loop
 sub-key c =
-    let turn = c .before .before in
-    rw (double turn) (low-fits (2 * row turn) 32767 (omega arith) (omega arith))
+    let round = c .before .before in
+    rw (double round) (low-fits (2 * row round) 32767 (omega arith) (omega arith))
 
 -- the key of a false row: 32,768 is no number of 16 bits with a sign, so it is taken off in two parts
 lower : (c : tie.Else1 Inv-loop μ-loop)
-    → let turn = c .before .before in
-    toZ w16 (ofZ w16 (toZ w16 (ofZ w16 (toZ w16 (row turn) *ℤ pos 2)) -ℤ pos 32767)) -ℤ pos 1 ≡ pos (2 * row turn) -ℤ pos 32768
+    → let round = c .before .before in
+    toZ w16 (ofZ w16 (toZ w16 (ofZ w16 (toZ w16 (row round) *ℤ pos 2)) -ℤ pos 32767)) -ℤ pos 1 ≡ pos (2 * row round) -ℤ pos 32768
 lower c =
-    let turn = c .before .before in
-    let z = pos (2 * row turn) in
-    rw (toZ-ofZ (sub-key c), double turn)
+    let round = c .before .before in
+    let z = pos (2 * row round) in
+    rw (toZ-ofZ (sub-key c), double round)
     (omega (integers, parts-sub z (pos 32767), parts-sub (z -ℤ pos 32767) (pos 1), parts-sub z (pos 32768)))
 
 sub-key-2 : tie.Need-sub-key-2 Inv-loop μ-loop
 sub-key-2 c =
-    let turn = c .before .before in
-    rw (lower c) (low-fits (2 * row turn) 32768 (omega arith) (omega arith))
+    let round = c .before .before in
+    rw (lower c) (low-fits (2 * row round) 32768 (omega arith) (omega arith))
 
 -- the key of a true row, and of a false row
 key-true : (c : tie.Then1 Inv-loop μ-loop)
-    → let turn = c .before .before in
-    toZ w16 (ofZ w16 (toZ w16 (ofZ w16 (toZ w16 (row turn) *ℤ pos 2)) +ℤ pos 1))
-    ≡ keyBy (getD (turn .before .before .before .args .values .now) (row turn) false) (row turn)
+    → let round = c .before .before in
+    toZ w16 (ofZ w16 (toZ w16 (ofZ w16 (toZ w16 (row round) *ℤ pos 2)) +ℤ pos 1))
+    ≡ keyBy (getD (round .before .before .before .args .values .now) (row round) false) (row round)
 key-true c =
-    let turn = c .before .before in
-    toZ-ofZ (add-key c) ∙ ap (λ (z : ℤ). z +ℤ pos 1) (double turn) ∙ sym (ap (λ (y : Bool). keyBy y (row turn)) (c .if1 .taken))
+    let round = c .before .before in
+    toZ-ofZ (add-key c) ∙ ap (λ (z : ℤ). z +ℤ pos 1) (double round) ∙ sym (ap (λ (y : Bool). keyBy y (row round)) (c .if1 .taken))
 
 key-false : (c : tie.Else1 Inv-loop μ-loop)
-    → let turn = c .before .before in
-    toZ w16 (ofZ w16 (toZ w16 (ofZ w16 (toZ w16 (ofZ w16 (toZ w16 (row turn) *ℤ pos 2)) -ℤ pos 32767)) -ℤ pos 1))
-    ≡ keyBy (getD (turn .before .before .before .args .values .now) (row turn) false) (row turn)
+    → let round = c .before .before in
+    toZ w16 (ofZ w16 (toZ w16 (ofZ w16 (toZ w16 (ofZ w16 (toZ w16 (row round) *ℤ pos 2)) -ℤ pos 32767)) -ℤ pos 1))
+    ≡ keyBy (getD (round .before .before .before .args .values .now) (row round) false) (row round)
 key-false c =
-    let turn = c .before .before in
-    toZ-ofZ (sub-key-2 c) ∙ lower c ∙ sym (ap (λ (y : Bool). keyBy y (row turn)) (c .if1 .left))
+    let round = c .before .before in
+    toZ-ofZ (sub-key-2 c) ∙ lower c ∙ sym (ap (λ (y : Bool). keyBy y (row round)) (c .if1 .left))
 
 -- what is stored is the row's key
 stored : (c : tie.Joined1 Inv-loop μ-loop)
-    → let turn = c .before .before in
-    toZ w16 (c .if1 .key) ≡ keyBy (getD (turn .before .before .before .args .values .now) (row turn) false) (row turn)
+    → let round = c .before .before in
+    toZ w16 (c .if1 .key) ≡ keyBy (getD (round .before .before .before .args .values .now) (row round) false) (row round)
 stored c =
     ⊎-elim (λ w. ap (toZ w16) (w .1) ∙ key-true (record { before = c .before; if1 = w .0 }))
     (λ w. ap (toZ w16) (w .1) ∙ key-false (record { before = c .before; if1 = w .0 }))

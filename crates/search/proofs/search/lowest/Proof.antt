@@ -163,16 +163,16 @@ code-of-requires-2 c κs = c .if2 .taken
 returns-2 : tie.Need-returns-2 Inv-loop μ-loop
 returns-2 c =
     let call = c .before .before in
-    let turn = call .before .before .before .before in
-    let head = turn .before in
-    found (lent-at head) (head .loop .block) (c .code-of2 .result) _ (inside turn) (head .loop .inv .3) (least-is call)
+    let round = call .before .before .before .before in
+    let head = round .before in
+    found (lent-at head) (head .loop .block) (c .code-of2 .result) _ (inside round) (head .loop .inv .3) (least-is call)
     (c .before .if2 .taken) (c .code-of2 .ensures)
 
 loop-again : tie.Need-loop-again Inv-loop μ-loop
 loop-again c =
     let call = c .before in
-    let turn = call .before .before .before .before in
-    let inv = turn .before .loop .inv in
+    let round = call .before .before .before .before in
+    let inv = round .before .loop .inv in
     (inv .0, omega arith, omega arith, below-more _ _ (inv .3) (rw (least-is call) at (c .if2 .left)))
 
 returns-3 : tie.Need-returns-3 Inv-loop μ-loop

@@ -8,9 +8,6 @@ use Rattle.soundness.proofs.sound.is_binate_start.Tie as tie
 returns : tie.Need-returns
 returns c = rw (ne-eqb _ _ (c .if1 .taken))
 
-same-vector-requires : tie.Need-same-vector-requires
-same-vector-requires c κs = search needs
-
 returns-2 : tie.Need-returns-2
 returns-2 c =
     let fresh = c .before .before in
@@ -43,7 +40,7 @@ is-binate-start-spec =
     tie.close
     (tie.spec
     returns
-    same-vector-requires
+    (λ c κs. search needs)
     returns-2
     (λ c κs. search needs)
     returns-3

@@ -14,9 +14,6 @@ use Rattle.soundness.proofs.sound.keeps_limits.Tie as tie
 returns : tie.Need-returns
 returns c = rw (lt-leb (c .before .args .core .k) cap (c .if1 .taken))
 
-vector-within-requires : tie.Need-vector-within-requires
-vector-within-requires c κs = search needs
-
 returns-2 : tie.Need-returns-2
 returns-2 c =
     let capped = c .before .before in
@@ -55,7 +52,7 @@ keeps-limits-spec =
     tie.close
     (tie.spec
     returns
-    vector-within-requires
+    (λ c κs. search needs)
     returns-2
     (λ c κs. search needs)
     returns-3

@@ -17,9 +17,6 @@ mark-in x k e told = e ∙ ap (λ (z : Stage). markFor z k) (sym told)
 enum-told : tie.Need-enum-told
 enum-told c = search needs
 
-top-power-requires : tie.Need-top-power-requires
-top-power-requires c κs = search needs
-
 returns : tie.Need-returns
 returns c = mark-in Open _ (c .top-power .ensures) (c .before .enum-told .given .1)
 
@@ -41,7 +38,7 @@ mark-for-spec =
     tie.close
     (tie.spec
     enum-told
-    top-power-requires
+    (λ c κs. search needs)
     (λ c. search needs)
     (λ c κs. search needs)
     (λ c. search needs)

@@ -66,9 +66,6 @@ module _ (t : Table) (x : State) where
 enum-told : tie.Need-enum-told
 enum-told c = search needs
 
-is-unate-trace-requires : tie.Need-is-unate-trace-requires
-is-unate-trace-requires c κs = search needs
-
 returns : tie.Need-returns
 returns c =
     let trace = c .before .before in
@@ -116,7 +113,7 @@ sound-in-spec =
     tie.close
     (tie.spec
     enum-told
-    is-unate-trace-requires
+    (λ c κs. search needs)
     (λ c κs. search needs)
     (λ c. search needs)
     (λ c κs. search needs)

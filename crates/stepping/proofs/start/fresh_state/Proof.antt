@@ -20,9 +20,6 @@ use Rattle.stepping.proofs.start.fresh_state.Tie as tie
 enum-told : tie.Need-enum-told
 enum-told c = search needs
 
-start-state-requires : tie.Need-start-state-requires
-start-state-requires c κs = search needs
-
 returns : tie.Need-returns
 returns c =
     let at = c .before .before .before in
@@ -57,7 +54,7 @@ fresh-state-spec =
     (λ c κs. search needs)
     (λ c. search needs)
     enum-told
-    start-state-requires
+    (λ c κs. search needs)
     returns
     binate-counts-requires
     (λ c κs. search needs)

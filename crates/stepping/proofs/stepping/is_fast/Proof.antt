@@ -15,9 +15,6 @@ returns c e = absurd (no-true e)
 returns-2 : tie.Need-returns-2
 returns-2 c e = absurd (no-true e)
 
-is-small-requires : tie.Need-is-small-requires
-is-small-requires c κs = search needs
-
 returns-3 : tie.Need-returns-3
 returns-3 c e = absurd (no-true e)
 
@@ -38,7 +35,7 @@ is-fast-spec =
     returns
     (λ c κs. search needs)
     returns-2
-    is-small-requires
+    (λ c κs. search needs)
     returns-3
     (λ c κs. search needs)
     returns-4)

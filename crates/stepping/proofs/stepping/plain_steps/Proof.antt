@@ -76,9 +76,6 @@ bounded c =
 enum-told : tie.Need-enum-told Inv-loop μ-loop
 enum-told c = search needs
 
-with-stage-requires : tie.Need-with-stage-requires Inv-loop μ-loop
-with-stage-requires c κs = search needs
-
 returns : tie.Need-returns Inv-loop μ-loop
 returns c =
     let inv = c .before .before .before .before .loop .inv in
@@ -133,7 +130,7 @@ element-write-j c = row-below (c .before .before .before)
 
 -- ---- what follows it
 
--- the turn's row and its correction, from there
+-- the round's row and its correction, from there
 abbrev told : tie.After-same-vector Inv-loop μ-loop → tie.After-known-told Inv-loop μ-loop
 told c = c .before .before .before .before .before
 
@@ -199,7 +196,7 @@ plain-steps-spec =
     loop-holds
     (λ c. search needs)
     enum-told
-    with-stage-requires
+    (λ c κs. search needs)
     returns
     array-read-corrected-by
     corrected-by-requires

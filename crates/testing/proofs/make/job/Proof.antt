@@ -10,15 +10,6 @@ Inv-loop line state₀ k₀ state k = Unit {0}
 abbrev μ-loop : tie.MeasureT-loop
 μ-loop line state₀ k₀ state k = 64 - k
 
-word-requires : tie.Need-word-requires Inv-loop μ-loop
-word-requires c κs = search needs
-
-add-word : tie.Need-add-word Inv-loop μ-loop
-add-word c = search needs
-
-number-requires : tie.Need-number-requires Inv-loop μ-loop
-number-requires c κs = search needs
-
 pub job-spec : {M : Type 1} → statement M
 job-spec =
     tie.close
@@ -27,10 +18,10 @@ job-spec =
     μ-loop
     (λ c κs. search needs)
     (λ c. search needs)
-    word-requires
-    add-word
     (λ c κs. search needs)
-    number-requires
+    (λ c. search needs)
+    (λ c κs. search needs)
+    (λ c κs. search needs)
     (λ c. search needs)
     (λ c κs. search needs)
     (λ c κs. search needs)

@@ -25,9 +25,9 @@ abbrev μ-loop : tie.MeasureT-loop
 μ-loop out₀ at x end here₀ rest₀ out here rest = rest
 
 -- the last digit stored, and the others before it
-turn : (out : List ℕ) (at rest here : ℕ) → 10 ≤ rest → rest < 2 ^ 64 → here ≡ at + length (decimal rest) → here ≤ length out
+round : (out : List ℕ) (at rest here : ℕ) → 10 ≤ rest → rest < 2 ^ 64 → here ≡ at + length (decimal rest) → here ≤ length out
     → writtenAt (set out (here - 1) (48 + rest % 10)) at (decimal (rest / 10)) ≡ writtenAt out at (decimal rest)
-turn out at rest here h k e room =
+round out at rest here h k e room =
     let others = decimal (rest / 10) in
     let last = 48 + rest % 10 in
     let fewer = decimal-less rest h k in
@@ -56,7 +56,7 @@ loop-again c =
       omega arith,
       omega arith,
       at-loop .inv .3,
-      turn (at-loop .out) (a .at) (at-loop .rest) (at-loop .here) (omega arith) (omega arith) (omega arith) (omega arith) ∙ at-loop .inv .4,
+      round (at-loop .out) (a .at) (at-loop .rest) (at-loop .here) (omega arith) (omega arith) (omega arith) (omega arith) ∙ at-loop .inv .4,
     )
 
 slice-write-out-2 : tie.Need-slice-write-out-2 Inv-loop μ-loop

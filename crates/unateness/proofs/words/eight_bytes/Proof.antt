@@ -25,7 +25,7 @@ loop-holds c = (omega arith, sym (packed-none 0 _ (λ j l. absurd (omega arith))
 abbrev bits : tie.Start Inv-loop μ-loop → ℕ → ℕ
 bits c m = packed (8 * m) (bitsFrom (c .args .bytes .now) (8 * c .args .first))
 
--- the sum of a turn has those of one byte more
+-- the sum of a round has those of one byte more
 more : (c : tie.After-wide Inv-loop μ-loop)
     → let at-head = c .before .before .before .loop in
     at-head .word + c .wide .result * 2 ^ (8 * at-head .at) % 2 ^ 64 ≡ bits (c .before .before .before .before) (at-head .at + 1)

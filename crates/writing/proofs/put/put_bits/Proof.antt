@@ -39,11 +39,11 @@ slice-write-out c = omega (arith, c .before .before .loop .inv .2, room (c .befo
 
 loop-again : tie.Need-loop-again Inv-loop μ-loop
 loop-again c =
-    let turn = c .before .before in
-    let s = turn .before in
+    let round = c .before .before in
+    let s = round .before in
     let a = s .args in
-    let copied = paste-suc (a .out .now) (a .at) (a .bits .now) (turn .loop .i) 0 (omega (arith, room s)) (omega (arith, s .pre .0)) in
-    (omega arith, rw (add-one, turn .loop .inv .1) copied, search needs)
+    let copied = paste-suc (a .out .now) (a .at) (a .bits .now) (round .loop .i) 0 (omega (arith, room s)) (omega (arith, s .pre .0)) in
+    (omega arith, rw (add-one, round .loop .inv .1) copied, search needs)
 
 add-result : tie.Need-add-result Inv-loop μ-loop
 add-result c = omega (arith, room (c .before .before))

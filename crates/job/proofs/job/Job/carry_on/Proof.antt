@@ -37,9 +37,6 @@ verdict j b = ifOpen (j .state .stage) (opened j b) (answered j)
 
 -- ---- the job's rules
 
-refused-requires : tie.Need-refused-requires
-refused-requires c κs = search needs
-
 returns : tie.Need-returns
 returns c =
     let at = c .before .before .before .before in
@@ -156,7 +153,7 @@ carry-on-spec =
     (tie.spec
     (λ c κs. search needs)
     (λ c. search needs)
-    refused-requires
+    (λ c κs. search needs)
     returns
     enum-told
     (λ c κs. search needs)
