@@ -15,7 +15,7 @@ use Rattle.table.specs.Table.{rows}
 abbrev pub countLimit : ℕ
 countLimit = 1000000
 
--- an array of counts that code lends: 256 numbers of 32 bits
+-- inside: an array of counts that code lends, 256 numbers of 32 bits
 pub record CountArray (counts : List ℕ) : Type 0 where
   pub size : length counts ≡ 256
   pub fits : (r : ℕ) → countOf counts r < 2 ^ 32
