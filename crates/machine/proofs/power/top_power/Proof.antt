@@ -1,7 +1,7 @@
 -- `machine::power::top_power` meets its contract: 1 shifted by 31 places or fewer is a power of two that is not above k, so that no bit is
 -- lost. Assumes nothing.
-use mathlib.Core.Path.{_≡_, sym}
-use Prim.Native.Nat.{_-_, _^_}
+use mathlib.Core.Path.{_≡_, sym, _∙_, ap}
+use Prim.Native.Nat.{ℕ, _-_, _%_, _^_}
 use native.Mathlib.Nat.{one-mul, mod-eq-of-lt}
 use native.Mathlib.Omega.{arith}
 use lib.Count.{leadingZeros, leading-top}
@@ -21,7 +21,8 @@ returns-2 : tie.Need-returns-2
 returns-2 c =
     let k = c .before .args .k in
     let is : highest k ≡ 2 ^ (31 - leadingZeros 32 k) = highest-shift k (omega (arith, c .if1 .left)) in
-    rw (one-mul, ← is) (mod-eq-of-lt (omega (arith, highest-le k (c .before .fits .k .fits), c .before .fits .k)))
+    ap (λ (m : ℕ). m % 2 ^ 32) (one-mul (2 ^ (31 - leadingZeros 32 k)) ∙ sym is)
+    ∙ mod-eq-of-lt (omega (arith, highest-le k (c .before .fits .k .fits), c .before .fits .k))
 
 pub top-power-spec : {M : Type 1} → statement M
 top-power-spec = tie.close (tie.spec returns sub-result (λ c. search needs) returns-2)

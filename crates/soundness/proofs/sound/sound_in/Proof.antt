@@ -63,50 +63,54 @@ module _ (t : Table) (x : State) where
       → trace ≡ soundIn (functionOf t) (x .stage) x
   untraced stage n is fails = in-stage stage (and-failed _ is fails fails ∙ parts stage n)
 
+-- the state that is tested
+abbrev state : tie.Start → State
+state c = stateOf (c .args .core) (c .args .counts .now)
+
 enum-told : tie.Need-enum-told
 enum-told c = search needs
 
 returns : tie.Need-returns
 returns c =
     let trace = c .before .before in
-    let a = trace .before .before .before .args in
-    traced (a .table) (stateOf (a .core) (a .counts .now)) Open tt (trace .is-unate-trace .ensures) (c .before .if1 .taken) (c .goes-on .ensures) (trace .before .enum-told .given .1)
+    let start = trace .before .before .before in
+    traced (start .args .table) (state start) Open tt (trace .is-unate-trace .ensures) (c .before .if1 .taken) (c .goes-on .ensures) (trace .before .enum-told .given .1)
 
 returns-2 : tie.Need-returns-2
 returns-2 c =
     let trace = c .before in
-    let a = trace .before .before .before .args in
-    untraced (a .table) (stateOf (a .core) (a .counts .now)) Open tt (trace .is-unate-trace .ensures) (c .if1 .left) (trace .before .enum-told .given .1)
+    let start = trace .before .before .before in
+    untraced (start .args .table) (state start) Open tt (trace .is-unate-trace .ensures) (c .if1 .left) (trace .before .enum-told .given .1)
 
 returns-3 : tie.Need-returns-3
 returns-3 c =
     let trace = c .before .before in
-    let a = trace .before .before .before .args in
-    traced (a .table) (stateOf (a .core) (a .counts .now)) Found tt (trace .is-unate-trace2 .ensures) (c .before .if2 .taken) (ap not (c .some-fails .ensures)) (trace .before .enum-told2 .given .1)
+    let start = trace .before .before .before in
+    traced (start .args .table) (state start) Found tt (trace .is-unate-trace2 .ensures) (c .before .if2 .taken) (ap not (c .some-fails .ensures)) (trace .before .enum-told2 .given .1)
 
 returns-4 : tie.Need-returns-4
 returns-4 c =
     let trace = c .before in
-    let a = trace .before .before .before .args in
-    untraced (a .table) (stateOf (a .core) (a .counts .now)) Found tt (trace .is-unate-trace2 .ensures) (c .if2 .left) (trace .before .enum-told2 .given .1)
+    let start = trace .before .before .before in
+    untraced (start .args .table) (state start) Found tt (trace .is-unate-trace2 .ensures) (c .if2 .left) (trace .before .enum-told2 .given .1)
 
 returns-5 : tie.Need-returns-5
 returns-5 c =
     let trace = c .before .before in
-    let a = trace .before .before .before .args in
-    traced (a .table) (stateOf (a .core) (a .counts .now)) Looped tt (trace .is-unate-trace3 .ensures) (c .before .if3 .taken) (c .has-looped .ensures) (trace .before .enum-told3 .given .1)
+    let start = trace .before .before .before in
+    traced (start .args .table) (state start) Looped tt (trace .is-unate-trace3 .ensures) (c .before .if3 .taken) (c .has-looped .ensures) (trace .before .enum-told3 .given .1)
 
 returns-6 : tie.Need-returns-6
 returns-6 c =
     let trace = c .before in
-    let a = trace .before .before .before .args in
-    untraced (a .table) (stateOf (a .core) (a .counts .now)) Looped tt (trace .is-unate-trace3 .ensures) (c .if3 .left) (trace .before .enum-told3 .given .1)
+    let start = trace .before .before .before in
+    untraced (start .args .table) (state start) Looped tt (trace .is-unate-trace3 .ensures) (c .if3 .left) (trace .before .enum-told3 .given .1)
 
 returns-7 : tie.Need-returns-7
 returns-7 c =
     let told = c .before in
-    let a = told .before .before .args in
-    in-stage (a .table) (stateOf (a .core) (a .counts .now)) Binate (c .is-binate-start .ensures ∙ binate-parts (a .table) (stateOf (a .core) (a .counts .now))) (told .enum-told4 .given .1)
+    let start = told .before .before in
+    in-stage (start .args .table) (state start) Binate (c .is-binate-start .ensures ∙ binate-parts (start .args .table) (state start)) (told .enum-told4 .given .1)
 
 pub sound-in-spec : {M : Type 1} → statement M
 sound-in-spec =
