@@ -1,15 +1,15 @@
--- What is claimed of a report, in statements alone (document 01, "Kinds, Chow, report"). It cites the definitions that the contracts of the
+-- What is claimed of a report, in statements alone (document 01, "Kinds, Chow, report"; document 02, §1). It cites the definitions that the contracts of the
 -- lines cite. Assumes nothing.
 use mathlib.Core.Path.{_≡_}
-use mathlib.Core.List.{List}
-use Prim.Native.Nat.{ℕ, _+_, _≤_, _<_}
+use mathlib.Core.List.{List, [], _∷_}
+use Prim.Native.Nat.{ℕ, _+_, _*_, _-_, _%_, _≤_, _<_}
 use lib.ListN.{length}
 use Rattle.types.specs.declared.table.Table.{Table}
 use Rattle.cell.specs.Refusal.{answered}
 use Rattle.job.specs.Machine.{fresh, decided}
 use Rattle.job.specs.Calls.{callBudget, carryOn}
 use Rattle.batch.specs.declared.progress.Phase.the-variants.{Done}
-use Rattle.reporting.specs.Lines.{tooLongLine}
+use Rattle.reporting.specs.Lines.{tooLongLine, meanTenths, meanText}
 use Rattle.reporting.specs.Report.{inputMost, report}
 use Rattle.batch.specs.Progress.{start, linesFrom, after}
 use Rattle.claims.specs.Jobs.{Taken}
@@ -21,3 +21,14 @@ pub record ReportIsItsLines : Type 0 where
   pub ends : (s : List ℕ) (m : ℕ) → length s + 2 ≤ m → (after m s start) .phase ≡ Done
   pub too-long : (s : List ℕ) → inputMost < length s → report s ≡ tooLongLine
   pub decides : (t : Table) → Taken t → carryOn (fresh t) callBudget ≡ answered (decided t)
+
+-- how far a number of tenths and the exact mean are apart, in parts of a tenth, of which there are as many as gates
+abbrev pub apart : (gates sum tenths : ℕ) → ℕ
+apart gates sum tenths = (tenths * gates - 10 * sum) + (10 * sum - tenths * gates)
+
+-- The mean of the last line is at most half a tenth off, and where it is half a tenth off it is even: 11.25 prints as 11.2 and 11.35 as 11.4
+pub record MeanIsRounded : Type 0 where
+  pub near : (gates sum : ℕ) → 0 < gates → 2 * apart gates sum (meanTenths gates sum) ≤ gates
+  pub even : (gates sum : ℕ) → 0 < gates → 2 * apart gates sum (meanTenths gates sum) ≡ gates → meanTenths gates sum % 2 ≡ 0
+  pub down : meanText 4 45 ≡ 49 ∷ 49 ∷ 46 ∷ 50 ∷ []
+  pub up : meanText 20 227 ≡ 49 ∷ 49 ∷ 46 ∷ 52 ∷ []

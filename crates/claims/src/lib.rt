@@ -7,7 +7,7 @@ use types::witness::Witness;
 ghost use Rattle.theory.specs.Cases.{MarkedCases};
 ghost use Rattle.records.specs.Record.{ofTable, ofGate, ofWitness, ofJob};
 ghost use Rattle.claims.specs.Lists.{CallsAreTheMachine};
-ghost use Rattle.claims.specs.Report.{ReportIsItsLines};
+ghost use Rattle.claims.specs.Report.{ReportIsItsLines, MeanIsRounded};
 ghost use Rattle.claims.specs.Decided.{DecidedIsRight};
 ghost use Rattle.claims.specs.Records.{ReadsBack, WritesBack, RecordsAreWritten};
 ghost use Rattle.claims.specs.Jobs.{JobNumbersOnTheirConditions, SoundnessIsKept, ShownIsRight, CarryOnIsTheMachine, CorrectionsAreBounded, WhatFitsIsFound};
@@ -100,6 +100,11 @@ pub fn calls_are_the_machine(table: Table)
 // Beyond the demands: the lines made one after another are the report of the whole input.
 pub fn report_is_its_lines()
     ensures { λ _. ⌜ ReportIsItsLines ⌝ }
+{}
+
+// Document 02, §1: the mean of a report is rounded to the nearest tenth, an exact half to the even one.
+pub fn mean_is_rounded()
+    ensures { λ _. ⌜ MeanIsRounded ⌝ }
 {}
 
 // Demand 2, of what a user meets: what a report says of the tables in any bytes, and what decide and carry-on of the C interface hand back.

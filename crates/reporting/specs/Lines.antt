@@ -1,6 +1,8 @@
 -- The lines of a report (document 01, "Kinds, Chow, report"). Definitions only. Assumes nothing.
+use mathlib.Core.Bool.{cond}
 use mathlib.Core.List.{List, [], _∷_, _++_}
 use Prim.Native.Nat.{ℕ, zero, suc, _+_, _*_, _/_, _%_}
+use lib.Dec.{ltb}
 use Rattle.job.specs.declared.job.Job.{Job}
 use Rattle.types.specs.declared.stage.Stage.{Stage}
 use Rattle.types.specs.declared.stage.Stage.the-variants.{Open, Found, Looped, Binate}
@@ -38,10 +40,14 @@ refusalLine position number = decimal position ++ (spaced (82 ∷ []) ++ (spaced
 abbrev pub tooLongLine : List ℕ
 tooLongLine = 82 ∷ 32 ∷ 49 ∷ 53 ∷ 10 ∷ []
 
--- ---- last: records read whole, numbers of G, N, S, and the mean K of the G lines in tenths, half up, "-" if none
+-- ---- last: records read whole, numbers of G, N, S, and the mean K of the G lines in tenths, "-" if none
 
+-- the tenths below the mean, and one more past the half; an exact half goes to the even tenth (document 02, §1)
 abbrev pub meanTenths : (gates sum : ℕ) → ℕ
-meanTenths gates sum = (20 * sum + gates) / (2 * gates)
+meanTenths gates sum =
+    let below = (10 * sum) / gates in
+    let twice = 2 * ((10 * sum) % gates) in
+    cond (ltb twice gates) below (cond (ltb gates twice) (below + 1) (below + below % 2))
 
 abbrev pub meanText : (gates sum : ℕ) → List ℕ
 meanText zero sum = 45 ∷ []

@@ -63,12 +63,20 @@ pub fn refusal_line(out: &mut [u8], position: u64, number: u8) -> usize
     put_byte(out, here, b'\n')
 }
 
-// Returns the mean of K in tenths, half up.
+// Returns the mean of K in tenths. An exact half goes to the even tenth.
 fn mean_tenths(gates: u64, sum: u64) -> u64
     requires { ⌜ (0 < gates) × (gates ≤ inputMost) × (sum ≤ sumMost) ⌝ }
     ensures { λ r. ⌜ r ≡ meanTenths gates sum ⌝ }
 {
-    (20 * sum + gates) / (2 * gates)
+    let below = 10 * sum / gates;
+    let twice = 2 * (10 * sum % gates);
+    if twice < gates {
+        return below;
+    }
+    if gates < twice {
+        return below + 1;
+    }
+    below + below % 2
 }
 
 // Writes the mean of K in tenths, or "-" if there is none.

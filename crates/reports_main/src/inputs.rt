@@ -59,8 +59,9 @@ kind-255-and-n-too-long 1 ff808080\n\
 second-kind-5 1 010208 1 05\n\
 third-kind-2 1 010208010206 1 020208040608 1 010102\n";
 
-// Means of K: whole, on a half of a tenth, and beside one. The name has the sum and the number of gates.
-pub const MEANS: [u8; 400] = *b"\
+// Means of K, by sum and number of gates: whole; an exact half above an even tenth (45 of 4, 41 of 20) and above an odd one (47 of 4, 59 of
+// 20, 227 of 20); and beside a half: just above one over an even tenth (80 of 39), just below one over an odd tenth (76 of 39).
+pub const MEANS: [u8; 508] = *b"\
 mean-18-of-1 1 010208\n\
 mean-54-of-3 3 010208\n\
 mean-7-of-3 2 010001 1 010102\n\
@@ -71,7 +72,10 @@ mean-47-of-4 1 0102080103ae01020e010001\n\
 mean-43-of-21 20 010001 1 010323\n\
 mean-41-of-21 20 010001 1 01030b\n\
 mean-59-of-20 19 010001 1 0103e0\n\
-mean-227-of-20 11 010208 5 010102 4 010001\n";
+mean-227-of-20 11 010208 5 010102 4 010001\n\
+mean-41-of-20 18 010001 1 010102 1 010208\n\
+mean-80-of-39 38 010001 1 010337\n\
+mean-76-of-39 38 010001 1 010307\n";
 
 // The longest input, 65,536 bytes, and inputs of 65,537: the same with a byte more, one of whole records, and one whose first byte is
 // no kind of a report.
@@ -87,3 +91,13 @@ whole-records-too-long 963 01080100000000000000000000000000000000000000000000000
 010780e8e8fee8eee8fe88e8e8fee8eeeefe010780e880e880e8e8ee80e888e880e8e8ee010688e8a8e888e8e8ee010488f8010208\n\
 longest-kind-5 1 05 21845 000000\n\
 kind-5-too-long 2 05 21845 000000\n";
+
+// Sums near the largest: inputs of 65,536 bytes, each 1,927 tables of eight inputs with a K of 77,630, the largest that a search came to, and
+// one of seven inputs. The means are an exact half above an even tenth, one above an odd tenth, and just above the first.
+pub const SUMS: [u8; 432] = *b"\
+last-line-of-149594002-of-1928 1927 010800000000000088a80080a8e888e8feff000080a88080eafe80a8eafeeafeffff 1 \
+010708088e8e8c8ececf080c8e8e8e8eceef\n\
+last-line-of-149594966-of-1928 1927 010800000000000088a80080a8e888e8feff000080a88080eafe80a8eafeeafeffff 1 \
+0107008800ee008888ee00ee88ff88eee8ff\n\
+last-line-of-149594003-of-1928 1927 010800000000000088a80080a8e888e8feff000080a88080eafe80a8eafeeafeffff 1 \
+0107008080e8008000e0008000c000000080\n";

@@ -1,0 +1,13 @@
+-- `claims::mean_is_rounded`: the laws of the mean, and document 02's two means. Assumes nothing.
+use mathlib.Core.Path.{refl}
+use Rattle.text.specs.Text.{digits, decimal}
+use Rattle.reporting.proofs.MeanLaws.{mean-near, mean-even}
+use Rattle.claims.proofs.mean_is_rounded.Statement.{statement}
+use Rattle.claims.proofs.mean_is_rounded.Tie as tie
+
+returns : tie.Need-returns
+unfolding decimal digits
+returns c = record { near = mean-near; even = mean-even; down = refl; up = refl }
+
+pub mean-is-rounded-spec : {M : Type 1} → statement M
+mean-is-rounded-spec = tie.close (tie.spec returns)
