@@ -33,7 +33,7 @@ pub struct Outcome {
     pub lent: Lent,
 }
 
-/// The description of a call on which the two disagree.
+/// The description of a call, or of a report, on which the two disagree.
 #[derive(Debug)]
 pub struct Difference(String);
 
@@ -138,7 +138,6 @@ impl Comparison {
 
 impl Difference {
     fn new(call: Call, record: &[u8], lent: &Lent, library: &Outcome, reference: &Outcome) -> Difference {
-        let hex = |bytes: &[u8]| bytes.iter().map(|byte| format!("{byte:02x}")).collect::<String>();
         let lending = |lent: &Lent| format!("{} and {}", hex(&lent.out), lent.made);
         let outcome = |outcome: &Outcome| format!("says {:?} and leaves {}", outcome.said, lending(&outcome.lent));
         Difference(format!(
@@ -149,6 +148,14 @@ impl Difference {
             outcome(reference)
         ))
     }
+
+    pub fn of_reports(input: &[u8], program: &str, reference: &str) -> Difference {
+        Difference(format!("difference in a report\n  input {}\n  program\n{program}\n  reference\n{reference}", hex(input)))
+    }
+}
+
+fn hex(bytes: &[u8]) -> String {
+    bytes.iter().map(|byte| format!("{byte:02x}")).collect()
 }
 
 impl fmt::Display for Difference {

@@ -1,9 +1,11 @@
-//! Compares the proved library with the reference: what each call says, each byte of the lent buffer, and the lent number of corrections.
+//! Compares the proved library with the reference: what each call says, each byte of the lent buffer, and the lent number of corrections;
+//! and the report, byte by byte.
 
 pub mod compare;
 pub mod damage;
 pub mod lists;
 pub mod random;
 pub mod records;
+pub mod reports;
 pub mod tables;
 pub mod verdicts;

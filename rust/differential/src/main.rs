@@ -4,6 +4,7 @@ use differential::compare::{Comparison, Difference};
 use differential::{
     damage::{compare_changed_jobs, compare_damaged},
     lists::compare_lists,
+    reports::compare_reports,
     verdicts::compare_verdicts,
 };
 use std::process::ExitCode;
@@ -34,6 +35,11 @@ fn compare_all(comparison: &mut Comparison) -> Result<(), Difference> {
         println!("{number:4} {times:9}");
     }
     assert!(comparison.refused.keys().copied().eq((1..=12).chain([14, 100])), "a refusal that was never compared");
+    let reports = compare_reports(&mut comparison.random)?;
+    println!("{} stored reports and {} of the program", reports.stored, reports.written);
+    let [even, odd] = reports.on_half;
+    println!("means on an exact half: {even} above an even tenth, {odd} above an odd one");
+    assert!(even > 0 && odd > 0, "a mean that was never compared");
     println!("no difference, {} seconds", start.elapsed().as_secs());
     Ok(())
 }

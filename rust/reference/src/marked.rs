@@ -5,6 +5,7 @@ use crate::gate::Gate;
 use crate::job::{Job, Stage, Vector};
 use crate::record::Record;
 use crate::refusal::Refusal;
+use crate::report::{decided, mean_text, report};
 use crate::table::Table;
 use crate::witness::Witness;
 
@@ -111,4 +112,21 @@ fn refusals_in_their_order() {
         assert_eq!(Record::read(bytes).map_err(|refusal| refusal as u8), Err(number), "{bytes:02x?}");
     }
     assert_eq!(calls::kind(&[4, 1, 0x02, 0, 0, 0, 0, 0, 0]), Ok(4));
+}
+
+#[test]
+fn report_of_nine_bytes() {
+    let lines = "1 2 G 18 9 2 3 4\n2 2 N 0 2 0:1 1:1 2:1 3:1\n3 1 G 5 3 2 1\n3 2 1 0 11.5\n";
+    assert_eq!(report(&[1, 2, 8, 1, 2, 6, 1, 1, 2], decided), lines);
+    assert_eq!(report(&[], decided), "0 0 0 0 -\n");
+    assert_eq!(report(&[0; 65_537], decided), "R 15\n");
+}
+
+/// Document 02, §1: an exact half goes to the even tenth, any other mean to the nearest.
+#[test]
+fn means() {
+    let cases = [(4, 45, "11.2"), (20, 227, "11.4"), (4, 47, "11.8"), (20, 59, "3.0"), (2, 23, "11.5"), (1, 18, "18.0"), (0, 0, "-")];
+    for (gates, sum, text) in cases {
+        assert_eq!(mean_text(gates, sum), text, "{sum} of {gates}");
+    }
 }

@@ -170,6 +170,14 @@ impl Record {
         Ok(record)
     }
 
+    /// The table that the bytes begin with, and the bytes after it. In a report any kind but 1 is refused.
+    pub fn first_table(bytes: &[u8]) -> Result<(Table, &[u8]), Refusal> {
+        let mut reader = Reader { bytes, at: 0 };
+        demand(reader.byte()? == 1, Refusal::UnknownKind)?;
+        let table = reader.table()?;
+        Ok((table, &bytes[reader.at..]))
+    }
+
     /// The kind byte, 1 to 4.
     pub fn kind(&self) -> u8 {
         match self {

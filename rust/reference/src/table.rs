@@ -1,7 +1,7 @@
 //! "Table, gate, witness": the table, and the kinds and Chow's parameters of its inputs.
 
 /// A table of n inputs, 0 to 8: the value of each of the 2^n rows.
-#[derive(Clone, Debug, PartialEq, Eq)]
+#[derive(Clone, Debug, PartialEq, Eq, Hash)]
 pub struct Table {
     pub n: usize,
     pub values: Vec<bool>,
