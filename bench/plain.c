@@ -114,6 +114,12 @@ static void put_open(const Job *j) {
     put(' ', j->k, '\n');
 }
 
+/* The mean in tenths; an exact half goes to the even tenth. */
+static uint64_t mean_tenths(uint64_t gates, uint64_t sum) {
+    uint64_t below = 10 * sum / gates, twice = 2 * (10 * sum % gates);
+    return below + (twice > gates || (twice == gates && below % 2));
+}
+
 /* Writes the last line: the records read whole, those found, ended with a witness and open, and the mean K of the gates. */
 static void put_last(uint64_t records, const uint64_t *ended, uint64_t sum) {
     put(0, (int64_t)records, ' ');
@@ -121,7 +127,7 @@ static void put_last(uint64_t records, const uint64_t *ended, uint64_t sum) {
     put(0, (int64_t)(ended[LOOPED] + ended[BINATE]), ' ');
     put(0, (int64_t)ended[OPEN], ' ');
     if (ended[FOUND]) {
-        uint64_t tenths = (20 * sum + ended[FOUND]) / (2 * ended[FOUND]);
+        uint64_t tenths = mean_tenths(ended[FOUND], sum);
         put(0, (int64_t)(tenths / 10), '.');
         put(0, (int64_t)(tenths % 10), '\n');
     } else {
