@@ -18,3 +18,5 @@ pub mod Decided
 pub mod TrueInputs
 -- the trace of a table's job, by its rows
 pub mod Traces
+-- the mean of a report is near the exact one
+pub mod Mean

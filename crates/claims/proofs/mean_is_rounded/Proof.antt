@@ -1,7 +1,7 @@
 -- `claims::mean_is_rounded`: the laws of the mean, and document 02's two means. Assumes nothing.
 use mathlib.Core.Path.{refl}
 use Rattle.text.specs.Text.{digits, decimal}
-use Rattle.reporting.proofs.MeanLaws.{mean-near, mean-even}
+use Rattle.claims.proofs.Mean.{mean-near, mean-even}
 use Rattle.claims.proofs.mean_is_rounded.Statement.{statement}
 use Rattle.claims.proofs.mean_is_rounded.Tie as tie
 
