@@ -18,5 +18,5 @@ pub mod Decided
 pub mod TrueInputs
 -- the trace of a table's job, by its rows
 pub mod Traces
--- the mean of a report is near the exact one
+-- the mean of a report: at most half a tenth off, and even on the half
 pub mod Mean

@@ -22,14 +22,15 @@ pub record ReportIsItsLines : Type 0 where
   pub too-long : (s : List ℕ) → inputMost < length s → report s ≡ tooLongLine
   pub decides : (t : Table) → Taken t → carryOn (fresh t) callBudget ≡ answered (decided t)
 
--- how far a number of tenths and the exact mean are apart, in parts of a tenth, of which there are as many as gates
-abbrev pub apart : (gates sum tenths : ℕ) → ℕ
-apart gates sum tenths = (tenths * gates - 10 * sum) + (10 * sum - tenths * gates)
+-- how far a number of tenths is from the exact mean, in units of a tenth divided by the number of gates
+abbrev pub meanError : (gates sum tenths : ℕ) → ℕ
+meanError gates sum tenths = (tenths * gates - 10 * sum) + (10 * sum - tenths * gates)
 
--- The mean of the last line is at most half a tenth off, and where it is half a tenth off it is even. 11.25 (45 of 4) prints as "11.2", and 11.35
--- (227 of 20) as "11.4"
+-- The mean of the last line is at most half a tenth off, and where it is half a tenth off its number of tenths is even. Without gates it is "-".
+-- A sum of 45 over 4 gates, 11.25, prints as "11.2", and 227 over 20, 11.35, as "11.4"
 pub record MeanIsRounded : Type 0 where
-  pub near : (gates sum : ℕ) → 0 < gates → 2 * apart gates sum (meanTenths gates sum) ≤ gates
-  pub even : (gates sum : ℕ) → 0 < gates → 2 * apart gates sum (meanTenths gates sum) ≡ gates → meanTenths gates sum % 2 ≡ 0
+  pub near : (gates sum : ℕ) → 0 < gates → 2 * meanError gates sum (meanTenths gates sum) ≤ gates
+  pub even : (gates sum : ℕ) → 0 < gates → 2 * meanError gates sum (meanTenths gates sum) ≡ gates → meanTenths gates sum % 2 ≡ 0
+  pub none : (sum : ℕ) → meanText 0 sum ≡ 45 ∷ []
   pub down : meanText 4 45 ≡ 49 ∷ 49 ∷ 46 ∷ 50 ∷ []
   pub up : meanText 20 227 ≡ 49 ∷ 49 ∷ 46 ∷ 52 ∷ []

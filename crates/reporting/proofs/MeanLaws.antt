@@ -1,14 +1,14 @@
 -- The mean in tenths, by where the exact mean lies: below the half of a tenth, past it, or on it. Assumes nothing.
 use mathlib.Core.Path.{_≡_, refl}
 use mathlib.Core.Bool.{Bool, true, false, cond}
-use Prim.Native.Nat.{ℕ, _+_, _*_, _/_, _%_, _≤_, _<_}
+use Prim.Native.Nat.{ℕ, _+_, _*_, _/_, _%_, _<_}
 use native.Mathlib.Omega.{arith}
 use lib.Dec.{ltb}
 use borrow.Author.Tests.{ltb-true, ltb-false, lt-ltb, le-ltb}
 use Rattle.reporting.specs.Lines.{meanTenths}
 
 module _ (gates sum : ℕ) where
-  -- the tenths below the exact mean, and what is left over
+  -- the whole tenths in the exact mean, and what is left over
   abbrev pub below : ℕ
   below = (10 * sum) / gates
 
@@ -21,11 +21,12 @@ module _ (gates sum : ℕ) where
   pub mean-past : gates < 2 * rest → meanTenths gates sum ≡ below + 1
   mean-past h = rw (le-ltb (2 * rest) gates (omega arith), lt-ltb gates (2 * rest) h) refl
 
-  pub mean-half : gates ≤ 2 * rest → 2 * rest ≤ gates → meanTenths gates sum ≡ below + below % 2
-  mean-half h k = rw (le-ltb (2 * rest) gates h, le-ltb gates (2 * rest) k) refl
+  pub mean-half : gates ≡ 2 * rest → meanTenths gates sum ≡ below + below % 2
+  mean-half h = rw (le-ltb (2 * rest) gates (omega arith), le-ltb gates (2 * rest) (omega arith)) refl
 
   -- what holds of every mean, if it holds below the half, past it and on it
-  pub by-half : (P : ℕ → Type 0) → (2 * rest < gates → P below) → (gates < 2 * rest → P (below + 1)) → (gates ≡ 2 * rest → P (below + below % 2)) → P (meanTenths gates sum)
+  pub by-half : (P : ℕ → Type 0) → (2 * rest < gates → P below) → (gates < 2 * rest → P (below + 1)) → (gates ≡ 2 * rest → P (below + below % 2))
+      → P (meanTenths gates sum)
   by-half P at-below at-past at-half = by (ltb (2 * rest) gates) (ltb gates (2 * rest)) refl refl
     where
       by : (a b : Bool) → ltb (2 * rest) gates ≡ a → ltb gates (2 * rest) ≡ b → P (cond a below (cond b (below + 1) (below + below % 2)))

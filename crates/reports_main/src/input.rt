@@ -1,5 +1,4 @@
 // One input, made from a line: a name, then parts, each of which is a number and the bytes, in base sixteen, that come so many times.
-use crate::last::print_last;
 use papers::show;
 use papers::text::digit;
 use papers::text::number;
@@ -60,20 +59,16 @@ fn put_parts(out: &mut [u8; 65600], line: &[u8]) -> usize {
     next
 }
 
-// Prints the report of the first bytes, or its last line alone.
-fn print_first(bytes: &[u8; 65600], length: usize, last_alone: bool) {
-    if last_alone {
-        print_last(first_bytes(bytes, length));
-    } else {
-        print_report(first_bytes(bytes, length));
-    }
+// Prints the report of the first bytes.
+fn print_first(bytes: &[u8; 65600], length: usize) {
+    print_report(first_bytes(bytes, length));
 }
 
-// Prints a line, and the report of its input or the last line of that.
-pub fn run(line: &[u8], last_alone: bool) {
+// Prints a line, and the report of its input.
+pub fn run(line: &[u8]) {
     let mut input = [0u8; 65600];
     let length = put_parts(&mut input, line);
     show::word(line);
     show::word(b"\n");
-    print_first(&input, length, last_alone);
+    print_first(&input, length);
 }

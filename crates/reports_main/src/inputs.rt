@@ -59,8 +59,9 @@ kind-255-and-n-too-long 1 ff808080\n\
 second-kind-5 1 010208 1 05\n\
 third-kind-2 1 010208010206 1 020208040608 1 010102\n";
 
-// Means of K, by sum and number of gates: whole; an exact half above an even tenth (45 of 4, 41 of 20) and above an odd one (47 of 4, 59 of
-// 20, 227 of 20); and beside a half: just above one over an even tenth (80 of 39), just below one over an odd tenth (76 of 39).
+// Means of K; a name has the sum and the number of gates. Whole (18 of 1, 54 of 3); an exact half over an even tenth (45 of 4, 41 of 20) and
+// over an odd one (47 of 4, 59 of 20, 227 of 20); below a half over an even tenth (43 of 21) and over an odd one (7 of 3, 76 of 39); above
+// a half over an even tenth (11 of 3, 80 of 39) and over an odd one (41 of 21).
 pub const MEANS: [u8; 508] = *b"\
 mean-18-of-1 1 010208\n\
 mean-54-of-3 3 010208\n\
@@ -92,12 +93,10 @@ whole-records-too-long 963 01080100000000000000000000000000000000000000000000000
 longest-kind-5 1 05 21845 000000\n\
 kind-5-too-long 2 05 21845 000000\n";
 
-// Sums near the largest: inputs of 65,536 bytes, each 1,927 tables of eight inputs with a K of 77,630, the largest that a search came to, and
-// one of seven inputs. The means are an exact half above an even tenth, one above an odd tenth, and just above the first.
-pub const SUMS: [u8; 432] = *b"\
-last-line-of-149594002-of-1928 1927 010800000000000088a80080a8e888e8feff000080a88080eafe80a8eafeeafeffff 1 \
+// Large sums: inputs of 65,536 bytes, each 1,927 tables of eight inputs with a K of 77,630, where a gate's line can have at most 100,000, and
+// one of seven inputs. The mean is an exact half over an even tenth, and the least that is above it.
+pub const SUMS: [u8; 272] = *b"\
+mean-149594002-of-1928 1927 010800000000000088a80080a8e888e8feff000080a88080eafe80a8eafeeafeffff 1 \
 010708088e8e8c8ececf080c8e8e8e8eceef\n\
-last-line-of-149594966-of-1928 1927 010800000000000088a80080a8e888e8feff000080a88080eafe80a8eafeeafeffff 1 \
-0107008800ee008888ee00ee88ff88eee8ff\n\
-last-line-of-149594003-of-1928 1927 010800000000000088a80080a8e888e8feff000080a88080eafe80a8eafeeafeffff 1 \
+mean-149594003-of-1928 1927 010800000000000088a80080a8e888e8feff000080a88080eafe80a8eafeeafeffff 1 \
 0107008080e8008000e0008000c000000080\n";

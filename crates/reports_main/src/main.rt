@@ -1,25 +1,24 @@
-// Prints the reports of inputs: whole records, a refusal of each number, means on a half, and the longest input; and the last line of
-// reports with large sums. Each comes after a line that names and spells the input.
+// Prints the reports of inputs: whole records, a refusal of each number, means on a half and beside one, the longest input, and large sums.
+// Each comes after a line that names and spells the input.
 mod input;
 mod inputs;
-mod last;
 
 use papers::line::line_end;
 
 // Runs each line.
-fn run(lines: &[u8], last_alone: bool) {
+fn run(lines: &[u8]) {
     let mut at: usize = 0;
     while at < lines.len() {
         let end = line_end(lines, at);
-        input::run(&lines[at..end], last_alone);
+        input::run(&lines[at..end]);
         at = end + 1;
     }
 }
 
 fn main() {
-    run(&inputs::WHOLE, false);
-    run(&inputs::REFUSED, false);
-    run(&inputs::MEANS, false);
-    run(&inputs::LONG, false);
-    run(&inputs::SUMS, true);
+    run(&inputs::WHOLE);
+    run(&inputs::REFUSED);
+    run(&inputs::MEANS);
+    run(&inputs::LONG);
+    run(&inputs::SUMS);
 }

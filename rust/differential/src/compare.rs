@@ -149,8 +149,9 @@ impl Difference {
         ))
     }
 
-    pub fn of_reports(input: &[u8], program: &str, reference: &str) -> Difference {
-        Difference(format!("difference in a report\n  input {}\n  program\n{program}\n  reference\n{reference}", hex(input)))
+    /// The description of a report, stored or written by the program, that is not the reference's.
+    pub fn of_reports(input: &[u8], found: &str, reference: &str) -> Difference {
+        Difference(format!("difference in a report\n  input {}\n  found\n{found}  reference\n{reference}", hex(input)))
     }
 }
 

@@ -38,8 +38,8 @@ fn compare_all(comparison: &mut Comparison) -> Result<(), Difference> {
     let reports = compare_reports(&mut comparison.random)?;
     println!("{} stored reports and {} of the program", reports.stored, reports.written);
     let [even, odd] = reports.on_half;
-    println!("means on an exact half: {even} above an even tenth, {odd} above an odd one");
-    assert!(even > 0 && odd > 0, "a mean that was never compared");
+    println!("means on an exact half: {even} over an even tenth, {odd} over an odd one");
+    assert!(even > 0 && odd > 0, "an exact half that was never compared");
     println!("no difference, {} seconds", start.elapsed().as_secs());
     Ok(())
 }

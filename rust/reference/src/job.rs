@@ -77,6 +77,13 @@ impl Job {
         job
     }
 
+    /// The fresh job, carried on by 100,000.
+    pub fn decided(table: Table) -> Job {
+        let mut job = Job::fresh(table);
+        job.carry_on(Job::CALL_BUDGET as u32).expect("a fresh job is sound");
+        job
+    }
+
     /// Whether the row fails: its distance is below 1 on a true row, above -1 on a false row.
     pub fn fails(&self, row: usize) -> bool {
         let distance = sum_of_true(&self.v.a, row) - self.v.b;

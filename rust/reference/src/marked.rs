@@ -5,7 +5,7 @@ use crate::gate::Gate;
 use crate::job::{Job, Stage, Vector};
 use crate::record::Record;
 use crate::refusal::Refusal;
-use crate::report::{decided, mean_text, report};
+use crate::report::{mean, report};
 use crate::table::Table;
 use crate::witness::Witness;
 
@@ -17,8 +17,7 @@ fn table(n: u8, bytes: &[u8]) -> Table {
 }
 
 fn settled(table: Table) -> Job {
-    let mut job = Job::fresh(table);
-    job.carry_on(100_000).unwrap();
+    let job = Job::decided(table);
     assert!(job.is_sound());
     job
 }
@@ -117,16 +116,18 @@ fn refusals_in_their_order() {
 #[test]
 fn report_of_nine_bytes() {
     let lines = "1 2 G 18 9 2 3 4\n2 2 N 0 2 0:1 1:1 2:1 3:1\n3 1 G 5 3 2 1\n3 2 1 0 11.5\n";
-    assert_eq!(report(&[1, 2, 8, 1, 2, 6, 1, 1, 2], decided), lines);
-    assert_eq!(report(&[], decided), "0 0 0 0 -\n");
-    assert_eq!(report(&[0; 65_537], decided), "R 15\n");
+    assert_eq!(report(&[1, 2, 8, 1, 2, 6, 1, 1, 2]), lines);
+    assert_eq!(report(&[]), "0 0 0 0 -\n");
+    assert_eq!(report(&[0; 65_537]), "R 15\n");
 }
 
-/// Document 02, §1: an exact half goes to the even tenth, any other mean to the nearest.
+/// Document 02, §1: exact halves, means just beside one, and others.
 #[test]
 fn means() {
-    let cases = [(4, 45, "11.2"), (20, 227, "11.4"), (4, 47, "11.8"), (20, 59, "3.0"), (2, 23, "11.5"), (1, 18, "18.0"), (0, 0, "-")];
-    for (gates, sum, text) in cases {
-        assert_eq!(mean_text(gates, sum), text, "{sum} of {gates}");
+    let halves = [(45, 4, "11.2"), (227, 20, "11.4"), (47, 4, "11.8"), (59, 20, "3.0"), (149_594_002, 1_928, "77590.2")];
+    let beside = [(80, 39, "2.1"), (76, 39, "1.9"), (149_594_003, 1_928, "77590.3")];
+    let others = [(23, 2, "11.5"), (18, 1, "18.0"), (7, 3, "2.3"), (0, 0, "-")];
+    for (sum, count, text) in halves.into_iter().chain(beside).chain(others) {
+        assert_eq!(mean(sum, count), text, "{sum} of {count}");
     }
 }

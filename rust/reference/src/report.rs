@@ -1,55 +1,50 @@
-//! "Kinds, Chow, report": the report of an input. The mean is that of document 02, §1.
+//! "Kinds, Chow, report": the report of an input, with the mean of document 02, §1.
 
 use crate::job::{Job, Stage};
 use crate::record::Record;
 use crate::table::{is_true, Table};
+use std::collections::HashMap;
 
-/// The most bytes of an input.
-pub const INPUT_MOST: usize = 65_536;
+/// The most bytes that are read.
+pub const LONGEST: usize = 65_536;
 
-/// The numbers of the last line: records read whole, the lines by verdict, and the sum of K over the G lines.
+/// What the last line counts: records read whole, lines with G, N and S, and the K of those with G added up.
 #[derive(Default)]
-struct Tally {
-    records: u64,
-    gates: u64,
-    witnesses: u64,
-    opens: u64,
-    sum: u64,
+struct Totals {
+    read: u64,
+    fitting: u64,
+    refuted: u64,
+    open: u64,
+    k: u64,
 }
 
-impl Tally {
-    fn count(&mut self, job: &Job) {
-        self.records += 1;
+impl Totals {
+    fn add(&mut self, job: &Job) {
+        self.read += 1;
         match job.stage {
-            Stage::Open => self.opens += 1,
+            Stage::Open => self.open += 1,
             Stage::Found => {
-                self.gates += 1;
-                self.sum += job.k as u64;
+                self.fitting += 1;
+                self.k += job.k as u64;
             }
-            Stage::Looped | Stage::Binate => self.witnesses += 1,
+            Stage::Looped | Stage::Binate => self.refuted += 1,
         }
     }
 
-    fn last_line(&self) -> String {
-        format!("{} {} {} {} {}\n", self.records, self.gates, self.witnesses, self.opens, mean_text(self.gates, self.sum))
+    fn line(&self) -> String {
+        format!("{} {} {} {} {}\n", self.read, self.fitting, self.refuted, self.open, mean(self.k, self.fitting))
     }
 }
 
-/// The mean in tenths: the nearest tenth and, where two are as near, the even one.
-pub fn mean_tenths(gates: u64, sum: u64) -> u64 {
-    let below = 10 * sum / gates;
-    let distance = |tenths: u64| (tenths * gates).abs_diff(10 * sum);
-    let tenths = [below, below + 1].into_iter().min_by_key(|&tenths| (distance(tenths), tenths % 2));
-    tenths.expect("one of two")
-}
-
-/// The mean as it is printed, "-" if there is no gate.
-pub fn mean_text(gates: u64, sum: u64) -> String {
-    if gates == 0 {
+/// The mean of numbers with this sum, to a tenth: the nearest and, of two that are as near, the even one; "-" if there are none.
+pub fn mean(sum: u64, count: u64) -> String {
+    if count == 0 {
         return "-".to_string();
     }
-    let tenths = mean_tenths(gates, sum);
-    format!("{}.{}", tenths / 10, tenths % 10)
+    let distance = |tenths: u64| (tenths * count).abs_diff(10 * sum);
+    let around = 10 * sum / count;
+    let nearest = (around..=around + 1).min_by_key(|&tenths| (distance(tenths), tenths % 2)).expect("one of two");
+    format!("{}.{}", nearest / 10, nearest % 10)
 }
 
 /// The sum of count times true inputs over the true rows.
@@ -58,43 +53,38 @@ fn height(table: &Table, counts: &[i64]) -> i64 {
     table.rows().filter(|&row| table.values[row]).map(|row| counts[row] * true_inputs(row)).sum()
 }
 
-/// The line of a job after its position.
-fn verdict_text(job: &Job) -> String {
-    let fields: Vec<String> = match job.stage {
-        Stage::Open => vec!["S".to_string(), job.k.to_string()],
+/// The line of a job from its letter on.
+fn verdict(job: &Job) -> String {
+    let Job { table, k, v, counts, .. } = job;
+    match job.stage {
+        Stage::Open => format!("S {k}"),
         Stage::Found => {
-            let size: i64 = job.v.a.iter().sum::<i64>() + job.v.b;
-            let numbers = [job.k, size].into_iter().chain(job.v.a.iter().copied()).chain([job.v.b]);
-            ["G".to_string()].into_iter().chain(numbers.map(|number| number.to_string())).collect()
+            let size = v.a.iter().sum::<i64>() + v.b;
+            let numbers: String = v.a.iter().chain([&v.b]).map(|number| format!(" {number}")).collect();
+            format!("G {k} {size}{numbers}")
         }
         Stage::Looped | Stage::Binate => {
-            let pairs = job.counts.iter().enumerate().filter(|(_, &count)| count > 0).map(|(row, count)| format!("{row}:{count}"));
-            ["N".to_string(), job.k.to_string(), height(&job.table, &job.counts).to_string()].into_iter().chain(pairs).collect()
+            let pairs = counts.iter().enumerate().filter(|(_, &count)| count > 0);
+            let pairs: String = pairs.map(|(row, count)| format!(" {row}:{count}")).collect();
+            format!("N {k} {}{pairs}", height(table, counts))
         }
-    };
-    format!("{} {}", job.table.n, fields.join(" "))
+    }
 }
 
-/// The fresh job of a table, carried on by 100,000.
-pub fn decided(table: Table) -> Job {
-    let mut job = Job::fresh(table);
-    job.carry_on(Job::CALL_BUDGET as u32).expect("a budget within the cap");
-    job
-}
-
-/// The report of an input, whose tables are decided by `decided` or by what gives the same.
-pub fn report(input: &[u8], mut decided: impl FnMut(Table) -> Job) -> String {
-    if input.len() > INPUT_MOST {
+/// The report of an input. A table that comes again is decided once.
+pub fn report(input: &[u8]) -> String {
+    if input.len() > LONGEST {
         return "R 15\n".to_string();
     }
-    let (mut tally, mut lines, mut rest) = (Tally::default(), String::new(), input);
+    let (mut totals, mut lines, mut rest) = (Totals::default(), String::new(), input);
+    let mut jobs: HashMap<Table, Job> = HashMap::new();
     while !rest.is_empty() {
-        let position = tally.records + 1;
+        let position = totals.read + 1;
         match Record::first_table(rest) {
             Ok((table, after)) => {
-                let job = decided(table);
-                lines += &format!("{position} {}\n", verdict_text(&job));
-                tally.count(&job);
+                let job = jobs.entry(table).or_insert_with_key(|table| Job::decided(table.clone()));
+                lines += &format!("{position} {} {}\n", job.table.n, verdict(job));
+                totals.add(job);
                 rest = after;
             }
             Err(refusal) => {
@@ -103,5 +93,5 @@ pub fn report(input: &[u8], mut decided: impl FnMut(Table) -> Job) -> String {
             }
         }
     }
-    lines + &tally.last_line()
+    lines + &totals.line()
 }

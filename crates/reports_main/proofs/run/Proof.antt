@@ -6,10 +6,10 @@ use Rattle.reports_main.proofs.run.Statement.{statement}
 use Rattle.reports_main.proofs.run.Tie as tie
 
 abbrev Inv-loop : tie.InvT-loop
-Inv-loop lines last-alone at₀ at = Unit {0}
+Inv-loop lines at₀ at = Unit {0}
 
 abbrev μ-loop : tie.MeasureT-loop
-μ-loop lines last-alone at₀ at = length lines - at
+μ-loop lines at₀ at = length lines - at
 
 pub run-spec : {M : Type 1} → statement M
 run-spec =

@@ -32,7 +32,7 @@ add-result-2 : tie.Need-add-result-2
 add-result-2 c = omega (arith, below-most (c .before .before))
 
 returns-3 : tie.Need-returns-3
-returns-3 c = let a = c .before .before .args in sym (mean-half (a .gates) (a .sum) (omega (arith, c .before .if1 .left)) (omega (arith, c .if2 .left)))
+returns-3 c = let a = c .before .before .args in sym (mean-half (a .gates) (a .sum) (omega (arith, c .before .if1 .left, c .if2 .left)))
 
 pub mean-tenths-spec : {M : Type 1} → statement M
 mean-tenths-spec =
