@@ -12,7 +12,7 @@ module _ (gates sum : ℕ) where
   below = mean.below gates sum
 
   abbrev rest : ℕ
-  rest = mean.rest gates sum
+  rest = (10 * sum) % gates
 
   whole : below * gates + rest ≡ 10 * sum
   whole = div-add-mod' (10 * sum) gates

@@ -63,20 +63,17 @@ pub fn refusal_line(out: &mut [u8], position: u64, number: u8) -> usize
     put_byte(out, here, b'\n')
 }
 
-// Returns the mean of K in tenths. An exact half goes to the even tenth.
+// Returns the mean of K in tenths, rounded half to even: a tenth more past the half, and on it if the whole tenths are odd.
 fn mean_tenths(gates: u64, sum: u64) -> u64
     requires { ⌜ (0 < gates) × (gates ≤ inputMost) × (sum ≤ sumMost) ⌝ }
     ensures { λ r. ⌜ r ≡ meanTenths gates sum ⌝ }
 {
     let below = 10 * sum / gates;
     let twice = 2 * (10 * sum % gates);
-    if twice < gates {
-        return below;
-    }
-    if gates < twice {
+    if gates < twice + below % 2 {
         return below + 1;
     }
-    below + below % 2
+    below
 }
 
 // Writes the mean of K in tenths, or "-" if there is none.
