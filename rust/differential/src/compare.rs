@@ -149,9 +149,18 @@ impl Difference {
         ))
     }
 
-    /// The description of a report, stored or written by the program, that is not the reference's.
+    /// The description of a report, stored or written by the program, that is not the reference's: the first line in which they differ.
     pub fn of_reports(input: &[u8], found: &str, reference: &str) -> Difference {
-        Difference(format!("difference in a report\n  input {}\n  found\n{found}  reference\n{reference}", hex(input)))
+        let found: Vec<&str> = found.split_inclusive('\n').collect();
+        let reference: Vec<&str> = reference.split_inclusive('\n').collect();
+        let at = found.iter().zip(&reference).take_while(|(one, other)| one == other).count();
+        Difference(format!(
+            "difference in a report\n  input {}\n  line {}: found {:?}, the reference has {:?}",
+            hex(input),
+            at + 1,
+            found.get(at),
+            reference.get(at)
+        ))
     }
 }
 

@@ -63,7 +63,7 @@ fn gates_and_sum(report: &str) -> (u64, u64) {
     (gates.len() as u64, gates.iter().sum())
 }
 
-/// The inputs of the stored run, each with its report, whose lines begin with a digit or with R.
+/// The inputs of the stored run, each with its report, no line of which begins with a small letter.
 fn stored_reports() -> Vec<(Vec<u8>, String)> {
     let mut stored: Vec<(Vec<u8>, String)> = Vec::new();
     for line in STORED.split_inclusive('\n') {
@@ -84,7 +84,7 @@ fn input_of(line: &str) -> Vec<u8> {
     words.chunks(2).flat_map(|part| bytes(part[1]).repeat(part[0].parse().expect("a number"))).collect()
 }
 
-/// Records of random tables of up to six inputs; one in a hundred is as long as is read, or a byte longer, and one in three is damaged.
+/// Records of random tables of up to six inputs. One in a hundred is as long as an input may be, or a byte longer; one in three is damaged.
 fn random_input(random: &mut Random) -> Vec<u8> {
     const FAMILIES: [Family; 5] = [Family::Random, Family::Threshold, Family::Threshold, Family::NearlyThreshold, Family::Unate];
     let mut input = Vec::new();

@@ -1,4 +1,4 @@
-//! "Edges and marked cases", and the published counts, of the reference itself.
+//! "Edges and marked cases", the example of a report, the means of document 02, §1, and the published counts, of the reference itself.
 
 use crate::calls;
 use crate::gate::Gate;
@@ -113,8 +113,9 @@ fn refusals_in_their_order() {
     assert_eq!(calls::kind(&[4, 1, 0x02, 0, 0, 0, 0, 0, 0]), Ok(4));
 }
 
+/// Document 01's example, an empty input, and one that is too long.
 #[test]
-fn report_of_nine_bytes() {
+fn reports() {
     let lines = "1 2 G 18 9 2 3 4\n2 2 N 0 2 0:1 1:1 2:1 3:1\n3 1 G 5 3 2 1\n3 2 1 0 11.5\n";
     assert_eq!(report(&[1, 2, 8, 1, 2, 6, 1, 1, 2]), lines);
     assert_eq!(report(&[]), "0 0 0 0 -\n");

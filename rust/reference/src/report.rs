@@ -5,7 +5,7 @@ use crate::record::Record;
 use crate::table::{is_true, Table};
 use std::collections::HashMap;
 
-/// The most bytes that are read.
+/// The most bytes of an input.
 pub const LONGEST: usize = 65_536;
 
 /// What the last line counts: records read whole, lines with G, N and S, and the K of those with G added up.
