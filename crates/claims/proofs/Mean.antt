@@ -1,4 +1,4 @@
--- The mean of the last line is at most half a tenth off, and where it is half a tenth off its number of tenths is even. Assumes nothing.
+-- The laws `near` and `even` of `MeanIsRounded`, by where the exact mean lies. Assumes nothing.
 use mathlib.Core.Path.{_≡_}
 use Prim.Native.Nat.{ℕ, zero, suc, _+_, _*_, _-_, _%_, _≤_, _<_}
 use native.Mathlib.Nat.{suc-mul, div-add-mod', mod-lt}

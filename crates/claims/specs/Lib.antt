@@ -8,7 +8,7 @@ pub mod Jobs
 pub mod Records
 -- demand 3: every list of calls is the machine
 pub mod Lists
--- the report is its lines
+-- the report is its lines, and its mean is rounded
 pub mod Report
 -- what a user meets, the report and the C records, is right
 pub mod Decided

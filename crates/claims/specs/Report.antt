@@ -1,5 +1,5 @@
--- What is claimed of a report, in statements alone (document 01, "Kinds, Chow, report"; document 02, §1). It cites the definitions that the
--- contracts of the lines cite. Assumes nothing.
+-- What is claimed of a report, in statements and the one definition that they add (document 01, "Kinds, Chow, report"; document 02, §1). They
+-- cite the definitions that the contracts of the lines cite. Assumes nothing.
 use mathlib.Core.Path.{_≡_}
 use mathlib.Core.List.{List, [], _∷_}
 use Prim.Native.Nat.{ℕ, _+_, _*_, _-_, _%_, _≤_, _<_}
@@ -26,8 +26,8 @@ pub record ReportIsItsLines : Type 0 where
 abbrev pub meanError : (gates sum tenths : ℕ) → ℕ
 meanError gates sum tenths = (tenths * gates - 10 * sum) + (10 * sum - tenths * gates)
 
--- The mean of the last line is at most half a tenth off, and where it is half a tenth off its number of tenths is even. Without gates it is "-".
--- A sum of 45 over 4 gates, 11.25, prints as "11.2", and 227 over 20, 11.35, as "11.4"
+-- The mean of the last line is at most half a tenth off, and where it is half a tenth off its number of tenths is even. Without gates it is
+-- "-". A sum of 45 over 4 gates, 11.25, prints as "11.2", and 227 over 20, 11.35, as "11.4"
 pub record MeanIsRounded : Type 0 where
   pub near : (gates sum : ℕ) → 0 < gates → 2 * meanError gates sum (meanTenths gates sum) ≤ gates
   pub even : (gates sum : ℕ) → 0 < gates → 2 * meanError gates sum (meanTenths gates sum) ≡ gates → meanTenths gates sum % 2 ≡ 0

@@ -17,9 +17,9 @@ module _ (gates sum : ℕ) where
 
   -- what holds of every mean, if it holds below the half, past it and on it
   pub by-half : (P : ℕ → Type 0) → (twice < gates → P below) → (gates < twice → P (below + 1)) → (gates ≡ twice → P (below + below % 2)) → P (meanTenths gates sum)
-  by-half P at-below at-past at-half = by (ltb twice gates) (ltb gates twice) refl refl
+  by-half P under-half past-half on-half = by (ltb twice gates) (ltb gates twice) refl refl
     where
       by : (a b : Bool) → ltb twice gates ≡ a → ltb gates twice ≡ b → P (cond a below (cond b (below + 1) (below + below % 2)))
-      by true b e f = at-below (ltb-true twice gates e)
-      by false true e f = at-past (ltb-true gates twice f)
-      by false false e f = at-half (omega (arith, ltb-false twice gates e, ltb-false gates twice f))
+      by true b e f = under-half (ltb-true twice gates e)
+      by false true e f = past-half (ltb-true gates twice f)
+      by false false e f = on-half (omega (arith, ltb-false twice gates e, ltb-false gates twice f))

@@ -42,7 +42,8 @@ tooLongLine = 82 ∷ 32 ∷ 49 ∷ 53 ∷ 10 ∷ []
 
 -- ---- last: records read whole, numbers of G, N, S, and the mean K of the G lines in tenths, "-" if none
 
--- rounded half to even (document 02, §1): the whole tenths in the exact mean, one more past the half, and on an exact half the even number of the two
+-- rounded half to even (document 02, §1): the whole tenths in the exact mean, one more past the half, and on an exact half the even one of
+-- the two
 abbrev pub meanTenths : (gates sum : ℕ) → ℕ
 meanTenths gates sum =
     let below = (10 * sum) / gates in

@@ -1,5 +1,5 @@
--- `line::mean_tenths` meets its contract: its one test tells where a tenth more is due. No product wraps, since a report has at most 65,536
--- gates, each with a K of at most the cap. Assumes nothing.
+-- `line::mean_tenths` meets its contract: its one test tells where a tenth more is due. No product and no sum wraps, since a report has at
+-- most 65,536 gates, each with a K of at most the cap. Assumes nothing.
 use mathlib.Core.Path.{_≡_, refl}
 use Prim.Native.Nat.{_+_, _*_, _≤_}
 use native.Mathlib.Nat.{mod-lt, div-le-self}
