@@ -63,8 +63,8 @@ pub fn refusal_line(out: &mut [u8], position: u64, number: u8) -> usize
     put_byte(out, here, b'\n')
 }
 
-// Returns the mean of K in tenths, rounded half to even: a tenth more past the half, and on it if the whole tenths are odd: `below % 2` is 1
-// then, and turns the test `gates < twice` into `gates <= twice`.
+// Returns the mean of K in tenths, rounded half to even: a tenth more past the half, and on it if the whole tenths are odd. For odd ones
+// `below % 2` is 1, and turns the test `gates < twice` into `gates <= twice`.
 fn mean_tenths(gates: u64, sum: u64) -> u64
     requires { ⌜ (0 < gates) × (gates ≤ inputMost) × (sum ≤ sumMost) ⌝ }
     ensures { λ r. ⌜ r ≡ meanTenths gates sum ⌝ }
