@@ -1,17 +1,17 @@
 -- A witness as text (document 01, "Kinds, Chow, report"): N, K, height, row:count pairs. Definitions only. Assumes nothing.
 use mathlib.Core.List.{List, [], _∷_, _++_}
 use Prim.Native.Nat.{ℕ, zero, suc, _*_}
-use lib.Count.{ones}
 use Rattle.numbers.specs.Sum.{sumBelow}
 use Rattle.types.specs.declared.table.Table.{Table}
 use Rattle.table.specs.Table.{rows, value}
 use Rattle.function.specs.Witness.{onlyIf, countOf}
+use Rattle.heights.specs.TrueInputs.{trueInputs}
 use Rattle.text.specs.Text.{decimal, spaced}
 
--- the sum of count × true inputs over true rows; the true inputs of a row are the bits of its number that are 1
+-- the sum of count × true inputs over true rows
 unfoldable pub height : Table → List ℕ → ℕ
-unfolding sumBelow
-height t counts = sumBelow (rows t) (λ r. onlyIf (value t r) (countOf counts r * ones r))
+unfolding sumBelow trueInputs
+height t counts = sumBelow (rows t) (λ r. onlyIf (value t r) (countOf counts r * trueInputs (t .n) r))
 
 -- the pair of a row; nothing where its count is 0
 abbrev pub pairText : ℕ → ℕ → List ℕ

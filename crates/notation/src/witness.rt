@@ -1,4 +1,5 @@
 // A witness as text, written into a lent buffer at a position. Each function that writes returns the position after its text.
+use heights::row::true_inputs;
 use table::table::row_count;
 use table::table::row_value;
 use text::decimal::put_decimal;
@@ -8,16 +9,16 @@ use text::field::put_number;
 use types::table::Table;
 ghost use mathlib.Core.Path.{_≡_};
 ghost use Prim.Native.Nat.{_+_, _*_, _≤_, _<_};
-ghost use lib.Count.{ones};
+ghost use Rattle.heights.specs.TrueInputs.{trueInputs};
 ghost use Rattle.codec.specs.Written.{Room, Put};
 ghost use Rattle.notation.specs.WitnessText.{height, pairText, pairsText, witnessText};
 
-// Returns a row's count × its true inputs, which are counted in the bits of its number.
-fn row_height(row: usize, count: u32) -> u64
+// Returns what a true row adds to the height: its count × its true inputs.
+fn height_term(row: usize, count: u32) -> u64
     requires { ⌜ row < 256 ⌝ }
-    ensures { λ r. ⌜ (r ≡ count * ones row) × (r ≤ 34359738360) ⌝ }
+    ensures { λ r. ⌜ (r ≡ count * trueInputs 8 row) × (r ≤ 34359738360) ⌝ }
 {
-    count as u64 * u32::count_ones(row as u32) as u64
+    count as u64 * true_inputs(row as u8)
 }
 
 // Returns the sum of count × true inputs over true rows.
@@ -30,7 +31,7 @@ fn height_of(table: Table, counts: &[u32; 256]) -> u64
     let mut row: usize = 0;
     while row < rows {
         if row_value(table, row) {
-            sum = sum + row_height(row, counts[row]);
+            sum = sum + height_term(row, counts[row]);
         }
         row = row + 1;
     }

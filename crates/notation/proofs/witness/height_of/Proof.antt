@@ -42,7 +42,7 @@ returns c =
     let all : c .before .loop .row ≡ rows (a .table) = omega arith in
     c .before .loop .inv .3
     ∙ ap (λ (m : ℕ). sumBelow m (heightTerm (a .table) (a .counts .now))) all
-    ∙ sym (height-terms (a .table) (a .counts .now))
+    ∙ sym (height-terms (a .table) (a .counts .now) (c .before .before .before .pre))
 
 pub height-of-spec : {M : Type 1} → statement M
 height-of-spec =

@@ -1,0 +1,2 @@
+-- how many inputs of a row are true
+pub mod TrueInputs

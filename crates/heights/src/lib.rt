@@ -1,0 +1,2 @@
+// The heights of rows.
+pub mod row;
