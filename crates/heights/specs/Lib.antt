@@ -1,2 +1,2 @@
--- how many inputs of a row are true
-pub mod TrueInputs
+-- how many inputs of a row are true, and the manual's page of them
+pub mod Page

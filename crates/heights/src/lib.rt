@@ -1,2 +1,2 @@
 // The heights of rows.
-pub mod row;
+pub mod page;

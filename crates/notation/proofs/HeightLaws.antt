@@ -12,8 +12,8 @@ use Rattle.types.specs.declared.table.Table.{Table}
 use Rattle.table.specs.Table.{rows, value}
 use Rattle.function.specs.Witness.{onlyIf, countOf}
 use Rattle.table.proofs.TableLaws.{rows-le}
-use Rattle.heights.specs.TrueInputs.{trueInputs}
-use Rattle.heights.proofs.TrueInputLaws.{true-inputs-most, true-inputs-width}
+use Rattle.heights.specs.Page.{trueInputs}
+use Rattle.heights.proofs.PageLaws.{true-inputs-most, true-inputs-width}
 use Rattle.notation.specs.WitnessText.{height}
 
 module _ (t : Table) (counts : List ℕ) where

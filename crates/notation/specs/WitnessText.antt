@@ -5,7 +5,7 @@ use Rattle.numbers.specs.Sum.{sumBelow}
 use Rattle.types.specs.declared.table.Table.{Table}
 use Rattle.table.specs.Table.{rows, value}
 use Rattle.function.specs.Witness.{onlyIf, countOf}
-use Rattle.heights.specs.TrueInputs.{trueInputs}
+use Rattle.heights.specs.Page.{trueInputs}
 use Rattle.text.specs.Text.{decimal, spaced}
 
 -- the sum of count × true inputs over true rows

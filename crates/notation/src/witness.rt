@@ -1,5 +1,5 @@
 // A witness as text, written into a lent buffer at a position. Each function that writes returns the position after its text.
-use heights::row::true_inputs;
+use heights::page::page;
 use table::table::row_count;
 use table::table::row_value;
 use text::decimal::put_decimal;
@@ -9,16 +9,23 @@ use text::field::put_number;
 use types::table::Table;
 ghost use mathlib.Core.Path.{_≡_};
 ghost use Prim.Native.Nat.{_+_, _*_, _≤_, _<_};
-ghost use Rattle.heights.specs.TrueInputs.{trueInputs};
+ghost use Rattle.table.specs.Table.{value};
+ghost use Rattle.function.specs.Witness.{onlyIf};
+ghost use Rattle.heights.specs.Page.{trueInputs, manualPage};
 ghost use Rattle.codec.specs.Written.{Room, Put};
 ghost use Rattle.notation.specs.WitnessText.{height, pairText, pairsText, witnessText};
 
-// Returns what a true row adds to the height: its count × its true inputs.
-fn height_term(row: usize, count: u32) -> u64
-    requires { ⌜ row < 256 ⌝ }
-    ensures { λ r. ⌜ (r ≡ count * trueInputs 8 row) × (r ≤ 34359738360) ⌝ }
+// Returns what a row adds to the height: if it is true, its count × its true inputs, by the manual's page. Most rows have no count.
+fn height_term(table: Table, heights: &[u8; 256], row: usize, count: u32) -> u64
+    requires { ⌜ (row < 256) × (now heights ≡ manualPage) ⌝ }
+    ensures { λ r. ⌜ (r ≡ onlyIf (value table row) (count * trueInputs 8 row)) × (r ≤ 34359738360) ⌝ }
 {
-    count as u64 * true_inputs(row as u8)
+    if count > 0 {
+        if row_value(table, row) {
+            return count as u64 * heights[row] as u64;
+        }
+    }
+    0
 }
 
 // Returns the sum of count × true inputs over true rows.
@@ -26,13 +33,12 @@ fn height_of(table: Table, counts: &[u32; 256]) -> u64
     requires { ⌜ table .n ≤ 8 ⌝ }
     ensures { λ r. ⌜ r ≡ height table (now (counts .entry)) ⌝ }
 {
+    let heights = page();
     let rows = row_count(table.n);
     let mut sum: u64 = 0;
     let mut row: usize = 0;
     while row < rows {
-        if row_value(table, row) {
-            sum = sum + height_term(row, counts[row]);
-        }
+        sum = sum + height_term(table, &heights, row, counts[row]);
         row = row + 1;
     }
     sum

@@ -1,12 +1,15 @@
--- Laws of the true inputs of a row: there are at most as many as inputs, and as many in each width that has the row. Assumes nothing.
+-- Laws of heights: a row has at most as many true inputs as inputs, and as many in each width that has the row; and what an entry of the manual's
+-- page is. Assumes nothing.
 use mathlib.Core.Path.{_≡_, _∙_, ap}
 use Prim.Native.Nat.{ℕ, zero, suc, _+_, _-_, _^_, _≤_, _<_}
 use native.Mathlib.Nat.{add-zero, add-suc}
 use native.Mathlib.Omega.{arith}
+use lib.ListN.{getD}
 use Rattle.numbers.proofs.SumLaws.{sum-below-suc, sum-below-most}
+use Rattle.numbers.proofs.TabulateLaws.{getD-tabulate}
 use Rattle.function.specs.Function.{level}
 use Rattle.function.proofs.FunctionLaws.{level-below, level-none}
-use Rattle.heights.specs.TrueInputs.{trueInputs}
+use Rattle.heights.specs.Page.{trueInputs, manualPage}
 
 -- at most all n are true
 pub true-inputs-most : (n row : ℕ) → trueInputs n row ≤ n
@@ -30,3 +33,8 @@ pub true-inputs-width : {n row : ℕ} → n ≤ 8 → row < 2 ^ n → trueInputs
 true-inputs-width {n} {row} h k =
     let eight : 8 ≡ n + (8 - n) = omega arith in
     ap (λ (m : ℕ). trueInputs m row) eight ∙ true-inputs-past n (8 - n) row k
+
+-- an entry of the manual's page is the true inputs of its row
+pub page-entry : (row : ℕ) → row < 256 → getD manualPage row 0 ≡ trueInputs 8 row
+unfolding manualPage
+page-entry row h = getD-tabulate (trueInputs 8) 256 row 0 h
