@@ -20,3 +20,5 @@ pub mod TrueInputs
 pub mod Traces
 -- the mean of a report: at most half a tenth off, and even on the half
 pub mod Mean
+-- the height of a witness by the manual's page, over the rows of either value
+pub mod Heights

@@ -1,17 +1,25 @@
--- What is claimed of a report, in statements and the one definition that they add (document 01, "Kinds, Chow, report"; document 02, §1). They
--- cite the definitions that the contracts of the lines cite. Assumes nothing.
+-- What is claimed of a report, in statements and the two definitions that they add (document 01, "Kinds, Chow, report"; document 02, §1 and §2).
+-- They cite the definitions that the contracts of the lines cite. Assumes nothing.
 use mathlib.Core.Path.{_≡_}
+use mathlib.Core.Bool.{Bool, true, false}
 use mathlib.Core.List.{List, [], _∷_}
-use Prim.Native.Nat.{ℕ, _+_, _*_, _-_, _%_, _≤_, _<_}
-use lib.ListN.{length}
+use Prim.Native.Nat.{ℕ, _+_, _*_, _-_, _%_, _^_, _≤_, _<_}
+use lib.ListN.{length, getD}
+use Rattle.numbers.specs.Sum.{sumBelow}
+use Rattle.numbers.specs.Tests.{sameBool}
 use Rattle.types.specs.declared.table.Table.{Table}
+use Rattle.function.specs.Witness.{onlyIf, Balances, countOf}
+use Rattle.table.specs.Table.{value, functionOf}
 use Rattle.cell.specs.Refusal.{answered}
 use Rattle.job.specs.Machine.{fresh, decided}
 use Rattle.job.specs.Calls.{callBudget, carryOn}
 use Rattle.batch.specs.declared.progress.Phase.the-variants.{Done}
+use Rattle.heights.specs.Page.{manualPage}
+use Rattle.notation.specs.WitnessText.{height}
 use Rattle.reporting.specs.Lines.{tooLongLine, meanTenths, meanText}
 use Rattle.reporting.specs.Report.{inputMost, report}
 use Rattle.batch.specs.Progress.{start, linesFrom, after}
+use Rattle.claims.specs.Tables.{trueIn}
 use Rattle.claims.specs.Jobs.{Taken}
 
 -- The lines that are made one after another are the report of the whole input, and after two lines more than the input has bytes the report
@@ -34,3 +42,14 @@ pub record MeanIsRounded : Type 0 where
   pub none : (sum : ℕ) → meanText 0 sum ≡ 45 ∷ []
   pub down : meanText 4 45 ≡ 49 ∷ 49 ∷ 46 ∷ 50 ∷ []
   pub up : meanText 20 227 ≡ 49 ∷ 49 ∷ 46 ∷ 52 ∷ []
+
+-- what the rows of one value add up to by the manual's page, each its count times its entry
+abbrev pub pageSum : Table → Bool → List ℕ → ℕ
+pageSum t side counts = sumBelow (2 ^ t .n) (λ r. onlyIf (sameBool (value t r) side) (countOf counts r * getD manualPage r 0))
+
+-- An entry of the manual's page is the number of true inputs of its row, in a table of any number of inputs that has the row; so the height of
+-- a witness is what its true rows add up to by the page. Of one that balances it is what its false rows add up to, too
+pub record HeightsByThePage : Type 0 where
+  pub entries : (n r : ℕ) → n ≤ 8 → r < 2 ^ n → getD manualPage r 0 ≡ sumBelow n (λ place. onlyIf (trueIn r place) 1)
+  pub true-rows : (t : Table) (counts : List ℕ) → t .n ≤ 8 → height t counts ≡ pageSum t true counts
+  pub false-rows : (t : Table) (counts : List ℕ) → t .n ≤ 8 → Balances (functionOf t) (countOf counts) → height t counts ≡ pageSum t false counts

@@ -7,7 +7,7 @@ use types::witness::Witness;
 ghost use Rattle.theory.specs.Cases.{MarkedCases};
 ghost use Rattle.records.specs.Record.{ofTable, ofGate, ofWitness, ofJob};
 ghost use Rattle.claims.specs.Lists.{CallsAreTheMachine};
-ghost use Rattle.claims.specs.Report.{ReportIsItsLines, MeanIsRounded};
+ghost use Rattle.claims.specs.Report.{ReportIsItsLines, MeanIsRounded, HeightsByThePage};
 ghost use Rattle.claims.specs.Decided.{DecidedIsRight};
 ghost use Rattle.claims.specs.Records.{ReadsBack, WritesBack, RecordsAreWritten};
 ghost use Rattle.claims.specs.Jobs.{JobNumbersOnTheirConditions, SoundnessIsKept, ShownIsRight, CarryOnIsTheMachine, CorrectionsAreBounded, WhatFitsIsFound};
@@ -105,6 +105,11 @@ pub fn report_is_its_lines()
 // Document 02, §1: the mean of a report is rounded to the nearest tenth, an exact half to the even one.
 pub fn mean_is_rounded()
     ensures { λ _. ⌜ MeanIsRounded ⌝ }
+{}
+
+// Document 02, §2: the height of a witness is added up by the manual's page, over its true rows or, if it balances, over its false ones.
+pub fn heights_by_the_page()
+    ensures { λ _. ⌜ HeightsByThePage ⌝ }
 {}
 
 // Demand 2, of what a user meets: what a report says of the tables in any bytes, and what decide and carry-on of the C interface hand back.
