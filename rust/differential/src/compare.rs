@@ -33,7 +33,7 @@ pub struct Outcome {
     pub lent: Lent,
 }
 
-/// The description of a call, or of a report, on which the two disagree.
+/// The description of a call, of a report, or of an entry of the page of heights, on which the two disagree.
 #[derive(Debug)]
 pub struct Difference(String);
 
@@ -161,6 +161,11 @@ impl Difference {
             found.get(at),
             reference.get(at)
         ))
+    }
+
+    /// The description of a row of the page whose height, or the number of whose line, is not the reference's.
+    pub fn of_heights(row: usize, part: &str, found: usize, reference: usize) -> Difference {
+        Difference(format!("difference in the page of heights\n  row {row}: {part} {found}, the reference has {reference}"))
     }
 }
 

@@ -3,6 +3,7 @@
 use differential::compare::{Comparison, Difference};
 use differential::{
     damage::{compare_changed_jobs, compare_damaged},
+    heights::compare_heights,
     lists::compare_lists,
     reports::compare_reports,
     verdicts::compare_verdicts,
@@ -40,6 +41,9 @@ fn compare_all(comparison: &mut Comparison) -> Result<(), Difference> {
     let [even, odd] = reports.on_half;
     println!("means on an exact half: {even} over an even tenth, {odd} over an odd one");
     assert!(even > 0 && odd > 0, "an exact half that was never compared");
+    let heights = compare_heights()?;
+    println!("{heights} rows of the page of heights");
+    assert_eq!(heights, 256, "rows of the page that were never compared");
     println!("no difference, {} seconds", start.elapsed().as_secs());
     Ok(())
 }

@@ -1,4 +1,4 @@
-//! The threshold cell verdict, written from document 01 and document 02, §1, and from nothing else: what the proved library and the
+//! The threshold cell verdict, written from document 01 and document 02, §1 and §2, and from nothing else: what the proved library and the
 //! report are compared with. What the documents do not have, the shape of the C interface and its number 100 for a kind that a call does
 //! not take, is in [`calls`].
 //!

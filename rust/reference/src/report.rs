@@ -2,7 +2,7 @@
 
 use crate::job::{Job, Stage};
 use crate::record::Record;
-use crate::table::{is_true, Table};
+use crate::table::{true_inputs, Table};
 use std::collections::HashMap;
 
 /// The most bytes of an input.
@@ -49,8 +49,7 @@ pub fn mean(sum: u64, count: u64) -> String {
 
 /// The sum of count times true inputs over the true rows.
 fn height(table: &Table, counts: &[i64]) -> i64 {
-    let true_inputs = |row: usize| (1..=table.n).filter(|&input| is_true(row, input)).count() as i64;
-    table.rows().filter(|&row| table.values[row]).map(|row| counts[row] * true_inputs(row)).sum()
+    table.rows().filter(|&row| table.values[row]).map(|row| counts[row] * true_inputs(row, table.n) as i64).sum()
 }
 
 /// The line of a job from its letter on.

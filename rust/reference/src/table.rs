@@ -21,6 +21,11 @@ pub fn is_true(row: usize, input: usize) -> bool {
     (row >> (input - 1)) & 1 == 1
 }
 
+/// How many of n inputs are true in the row (document 02, §2: the height of the row).
+pub fn true_inputs(row: usize, n: usize) -> usize {
+    (1..=n).filter(|&input| is_true(row, input)).count()
+}
+
 /// The row that differs from this one in having the input true.
 pub fn partner(row: usize, input: usize) -> usize {
     row | 1 << (input - 1)
