@@ -17,7 +17,7 @@ unfolding trueInputs
 true-inputs-most n row = omega (arith, sum-below-most n 1 (level 2 row) (λ place h. omega (arith, level-below 1 row place)))
 
 -- one input more
-pub true-inputs-suc : (n row : ℕ) → trueInputs (suc n) row ≡ trueInputs n row + level 2 row n
+true-inputs-suc : (n row : ℕ) → trueInputs (suc n) row ≡ trueInputs n row + level 2 row n
 unfolding trueInputs
 true-inputs-suc n row = sum-below-suc n (level 2 row)
 

@@ -1,9 +1,7 @@
 -- `witness::height_of` meets its contract. The loop's invariant: `sum` is what the rows below `row` add, each at most 8 × (2^32 - 1), and
 -- `heights` is the manual's page. There are at most 256 rows, so the sum fits. The measure is what is left of the rows. Assumes nothing.
 use mathlib.Core.Path.{_≡_, sym, _∙_, ap}
-use mathlib.Core.Logic.{⊎-elim}
-use Prim.Native.Nat.{ℕ, _+_, _*_, _-_, _≤_}
-use native.Mathlib.Nat.{add-zero}
+use Prim.Native.Nat.{ℕ, _*_, _-_, _≤_}
 use native.Mathlib.Numerals.{add-one}
 use native.Mathlib.Omega.{arith}
 use borrow.Author.Needs.{needs}
