@@ -100,7 +100,7 @@ static void put_gate(const Job *j) {
 static void put_witness(const Job *j) {
     int64_t height = 0;
     for (int r = 0; r < j->rows; r++)
-        if (value(j, r)) height += (int64_t)j->counts[r] * __builtin_popcount((unsigned)r);
+        if (j->counts[r] && value(j, r)) height += (int64_t)j->counts[r] * __builtin_popcount((unsigned)r);
     *end++ = 'N';
     put(' ', j->k, ' ');
     put(0, height, 0);

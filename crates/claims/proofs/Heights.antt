@@ -3,20 +3,24 @@
 use mathlib.Core.Path.{_≡_, refl, sym, _∙_, ap}
 use mathlib.Core.Bool.{Bool, true, false}
 use mathlib.Core.List.{List}
-use Prim.Native.Nat.{ℕ, zero, suc, _*_, _^_, _≤_, _<_}
+use Prim.Native.Nat.{ℕ, zero, suc, _*_, _%_, _^_, _≤_, _<_}
+use native.Mathlib.Nat.{mod-lt, mod-eq-of-lt}
+use native.Mathlib.Numerals.{one-add}
 use native.Mathlib.Omega.{arith}
+use lib.Count.{ones, ones-cat}
 use lib.Dec.{eqb}
 use lib.ListN.{getD}
+use lib.Pow.{mod-pow-add, pow-pos}
 use Rattle.numbers.specs.Sum.{sumBelow}
 use Rattle.numbers.specs.Tests.{sameBool}
-use Rattle.numbers.proofs.SumLaws.{sum-below-ext, sum-below-mul, sum-below-most, sum-below-exchange}
+use Rattle.numbers.proofs.SumLaws.{sum-below-ext, sum-below-mul, sum-below-none, sum-below-exchange}
 use Rattle.types.specs.declared.table.Table.{Table}
 use Rattle.function.specs.Function.{level}
 use Rattle.function.specs.Witness.{onlyIf, sideSum, Balances, countOf}
 use Rattle.table.specs.Table.{value, functionOf}
 use Rattle.table.proofs.TableLaws.{rows-le, level-lt}
 use Rattle.heights.specs.Page.{trueInputs, manualPage}
-use Rattle.heights.proofs.PageLaws.{true-inputs-width, page-entry}
+use Rattle.heights.proofs.PageLaws.{among-eight, page-entry}
 use Rattle.notation.specs.WitnessText.{height}
 use Rattle.claims.specs.Tables.{trueIn}
 use Rattle.claims.specs.Report.{pageSum}
@@ -29,17 +33,36 @@ level-true (suc (suc l)) h = absurd (omega arith)
 
 -- an entry is the true inputs of its row
 counted : {n r : ℕ} → n ≤ 8 → r < 2 ^ n → getD manualPage r 0 ≡ trueInputs n r
-counted {r = r} h k = page-entry r (omega (arith, rows-le h)) ∙ true-inputs-width h k
+counted {r = r} h k = page-entry r (omega (arith, rows-le h)) ∙ among-eight h k
 
 pub entry : (n r : ℕ) → n ≤ 8 → r < 2 ^ n → getD manualPage r 0 ≡ sumBelow n (λ place. onlyIf (trueIn r place) 1)
 unfolding trueInputs
 entry n r h k =
     counted h k ∙ sum-below-ext n (level 2 r) (λ place. onlyIf (trueIn r place) 1) (λ place l. level-true (level 2 r place) (level-lt r place))
 
+-- a digit is the number of its ones
+ones-digit : (x : ℕ) → x < 2 → ones x ≡ x
+unfolding ones
+ones-digit zero h = refl
+ones-digit (suc zero) h = refl
+ones-digit (suc (suc x)) h = absurd (omega arith)
+
+-- the ones of the lowest n digits are the true inputs among n
+ones-levels : (n r : ℕ) → ones (r % 2 ^ n) ≡ sumBelow n (level 2 r)
+unfolding ones sumBelow
+ones-levels zero r =
+    let none : r % 2 ^ 0 ≡ 0 = omega arith in
+    ap ones none
+ones-levels (suc n) r =
+    ap (λ (m : ℕ). ones (r % 2 ^ m)) (sym (one-add n))
+    ∙ ap ones (mod-pow-add r 1 n)
+    ∙ ones-cat n (level 2 r n) (r % 2 ^ n) (mod-lt r (pow-pos n))
+    ∙ omega (arith, ones-digit (level 2 r n) (level-lt r n), ones-levels n r)
+
 -- a count times a sum, if a test passes, is the sum of what passes
 only-if-sum : (b : Bool) (c n : ℕ) (f : ℕ → ℕ) → onlyIf b (c * sumBelow n f) ≡ sumBelow n (λ p. onlyIf b (c * f p))
 only-if-sum true c n f = sym (sum-below-mul n c f)
-only-if-sum false c n f = sym (omega (arith, sum-below-most n 0 (λ p. 0) (λ p h. omega arith)))
+only-if-sum false c n f = sym (sum-below-none n)
 
 same-true : (v : Bool) (x : ℕ) → onlyIf v x ≡ onlyIf (sameBool v true) x
 same-true true x = refl
@@ -75,3 +98,8 @@ module _ (t : Table) (counts : List ℕ) where
       ∙ sum-below-ext (t .n) _ _ (λ place k. balanced .inputs (suc place) (omega arith) (omega arith))
       ∙ sym (by-inputs false)
       ∙ by-page h false
+
+  pub bits : height t counts ≡ sumBelow (2 ^ t .n) (λ r. onlyIf (value t r) (countOf counts r * ones r))
+  unfolding height trueInputs
+  bits =
+      sum-below-ext (2 ^ t .n) _ _ (λ r k. ap (λ (x : ℕ). onlyIf (value t r) (countOf counts r * x)) (sym (ones-levels (t .n) r) ∙ ap ones (mod-eq-of-lt k)))

@@ -4,6 +4,7 @@ use mathlib.Core.Path.{_≡_}
 use mathlib.Core.Bool.{Bool, true, false}
 use mathlib.Core.List.{List, [], _∷_}
 use Prim.Native.Nat.{ℕ, _+_, _*_, _-_, _%_, _^_, _≤_, _<_}
+use lib.Count.{ones}
 use lib.ListN.{length, getD}
 use Rattle.numbers.specs.Sum.{sumBelow}
 use Rattle.numbers.specs.Tests.{sameBool}
@@ -47,9 +48,11 @@ pub record MeanIsRounded : Type 0 where
 abbrev pub pageSum : Table → Bool → List ℕ → ℕ
 pageSum t side counts = sumBelow (2 ^ t .n) (λ r. onlyIf (sameBool (value t r) side) (countOf counts r * getD manualPage r 0))
 
--- An entry of the manual's page is the number of true inputs of its row, in a table of any number of inputs that has the row; so the height of
--- a witness is what its true rows add up to by the page. Of one that balances it is what its false rows add up to, too
+-- An entry of the manual's page is the number of true inputs of its row, in every table that has the row; so the height of a witness is what its
+-- true rows add up to by the page. Of one that balances it is what its false rows add up to, too. And it is the height that document 01 gets by
+-- counting bits
 pub record HeightsByThePage : Type 0 where
   pub entries : (n r : ℕ) → n ≤ 8 → r < 2 ^ n → getD manualPage r 0 ≡ sumBelow n (λ place. onlyIf (trueIn r place) 1)
   pub true-rows : (t : Table) (counts : List ℕ) → t .n ≤ 8 → height t counts ≡ pageSum t true counts
   pub false-rows : (t : Table) (counts : List ℕ) → t .n ≤ 8 → Balances (functionOf t) (countOf counts) → height t counts ≡ pageSum t false counts
+  pub bits : (t : Table) (counts : List ℕ) → height t counts ≡ sumBelow (2 ^ t .n) (λ r. onlyIf (value t r) (countOf counts r * ones r))

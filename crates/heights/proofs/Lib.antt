@@ -1,2 +1,2 @@
--- how many inputs of a row are true in each width and at most, and what an entry of the page is
+-- how many inputs of a row are true at most, and among eight; and what an entry of the page is
 pub mod PageLaws

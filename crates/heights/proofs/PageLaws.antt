@@ -1,5 +1,5 @@
--- Laws of heights: a row has at most as many true inputs as inputs, and as many in each width that has the row; and what an entry of the manual's
--- page is. Assumes nothing.
+-- Laws of heights: a row has at most as many true inputs as inputs, and as many among eight as among its table's; and what an entry of the
+-- manual's page is. Assumes nothing.
 use mathlib.Core.Path.{_≡_, _∙_, ap}
 use Prim.Native.Nat.{ℕ, zero, suc, _+_, _-_, _^_, _≤_, _<_}
 use native.Mathlib.Nat.{add-zero, add-suc}
@@ -28,9 +28,9 @@ true-inputs-past n (suc more) row h =
     ap (λ (m : ℕ). trueInputs m row) (add-suc n more)
     ∙ omega (arith, true-inputs-suc (n + more) row, level-none 1 row (n + more) h (omega arith), true-inputs-past n more row h)
 
--- so it has as many among eight inputs
-pub true-inputs-width : {n row : ℕ} → n ≤ 8 → row < 2 ^ n → trueInputs 8 row ≡ trueInputs n row
-true-inputs-width {n} {row} h k =
+-- so it has as many among eight inputs as among n
+pub among-eight : {n row : ℕ} → n ≤ 8 → row < 2 ^ n → trueInputs 8 row ≡ trueInputs n row
+among-eight {n} {row} h k =
     let eight : 8 ≡ n + (8 - n) = omega arith in
     ap (λ (m : ℕ). trueInputs m row) eight ∙ true-inputs-past n (8 - n) row k
 

@@ -2,8 +2,8 @@
 ghost use mathlib.Core.Path.{_≡_};
 ghost use Rattle.heights.specs.Page.{manualPage};
 
-// How many inputs are true in rows 0 to 15, in rows 16 to 31, and so on: the page that docs/HEIGHTS.md shows.
-const PAGE: [u8; 256] = *b"\
+// How many inputs are true in rows 0 to 15, in rows 16 to 31, and so on. docs/HEIGHTS.md shows it.
+const TRUE_INPUTS: [u8; 256] = *b"\
     \x00\x01\x01\x02\x01\x02\x02\x03\x01\x02\x02\x03\x02\x03\x03\x04\
     \x01\x02\x02\x03\x02\x03\x03\x04\x02\x03\x03\x04\x03\x04\x04\x05\
     \x01\x02\x02\x03\x02\x03\x03\x04\x02\x03\x03\x04\x03\x04\x04\x05\
@@ -21,9 +21,9 @@ const PAGE: [u8; 256] = *b"\
     \x03\x04\x04\x05\x04\x05\x05\x06\x04\x05\x05\x06\x05\x06\x06\x07\
     \x04\x05\x05\x06\x05\x06\x06\x07\x05\x06\x06\x07\x06\x07\x07\x08";
 
-// Returns the page. A loop that holds it does not copy it again.
+// Returns the whole page, for a loop to hold: a constant array that is read at an index is made anew at each read.
 pub fn page() -> [u8; 256]
     ensures { λ r. ⌜ r ≡ manualPage ⌝ }
 {
-    PAGE
+    TRUE_INPUTS
 }

@@ -3,7 +3,7 @@
 use mathlib.Core.Path.{_≡_, sym, ap}
 use mathlib.Core.Bool.{Bool, true, false}
 use mathlib.Core.List.{List}
-use Prim.Native.Nat.{ℕ, _*_, _≤_, _<_}
+use Prim.Native.Nat.{ℕ, _*_, _≤_}
 use native.Mathlib.Nat.{mul-le-mul}
 use native.Mathlib.Omega.{arith}
 use Rattle.numbers.specs.Sum.{sumBelow}
@@ -13,7 +13,7 @@ use Rattle.table.specs.Table.{rows, value}
 use Rattle.function.specs.Witness.{onlyIf, countOf}
 use Rattle.table.proofs.TableLaws.{rows-le}
 use Rattle.heights.specs.Page.{trueInputs}
-use Rattle.heights.proofs.PageLaws.{true-inputs-most, true-inputs-width}
+use Rattle.heights.proofs.PageLaws.{true-inputs-most, among-eight}
 use Rattle.notation.specs.WitnessText.{height}
 
 module _ (t : Table) (counts : List ℕ) where
@@ -26,7 +26,7 @@ module _ (t : Table) (counts : List ℕ) where
   unfolding height
   height-terms h =
       sum-below-ext (rows t) (λ r. onlyIf (value t r) (countOf counts r * trueInputs (t .n) r)) heightTerm
-      (λ r k. ap (λ (x : ℕ). onlyIf (value t r) (countOf counts r * x)) (sym (true-inputs-width h k)))
+      (λ r k. ap (λ (x : ℕ). onlyIf (value t r) (countOf counts r * x)) (sym (among-eight h k)))
 
 -- a count of 32 bits times the true inputs of a row, of which there are at most eight
 pub product-most : {x : ℕ} (r : ℕ) → x ≤ 4294967295 → x * trueInputs 8 r ≤ 34359738360

@@ -8,14 +8,15 @@ use text::field::put_letter;
 use text::field::put_number;
 use types::table::Table;
 ghost use mathlib.Core.Path.{_≡_};
-ghost use Prim.Native.Nat.{_+_, _*_, _≤_, _<_};
+ghost use Prim.Native.Nat.{_*_, _≤_, _<_};
 ghost use Rattle.table.specs.Table.{value};
 ghost use Rattle.function.specs.Witness.{onlyIf};
 ghost use Rattle.heights.specs.Page.{trueInputs, manualPage};
 ghost use Rattle.codec.specs.Written.{Room, Put};
 ghost use Rattle.notation.specs.WitnessText.{height, pairText, pairsText, witnessText};
 
-// Returns what a row adds to the height: if it is true, its count × its true inputs, by the manual's page. Most rows have no count.
+// Returns what a row adds to the height: if it is true, its count × its true inputs, by the manual's page. The count is asked first, since most
+// rows have none and their values take longer to look up.
 fn height_term(table: Table, heights: &[u8; 256], row: usize, count: u32) -> u64
     requires { ⌜ (row < 256) × (now heights ≡ manualPage) ⌝ }
     ensures { λ r. ⌜ (r ≡ onlyIf (value table row) (count * trueInputs 8 row)) × (r ≤ 34359738360) ⌝ }

@@ -80,10 +80,14 @@ pub sum-below-most : (m k : ℕ) (f : ℕ → ℕ) → ((r : ℕ) → r < m → 
 sum-below-most zero k f h = omega (arith, sum-below-zero f)
 sum-below-most (suc m) k f h = omega (arith, sum-below-suc m f, sum-below-most m k f (λ r l. h r (omega arith)), h m (omega arith))
 
+-- terms of 0
+pub sum-below-none : (m : ℕ) → sumBelow m (λ r. 0) ≡ 0
+sum-below-none m = omega (arith, sum-below-most m 0 (λ r. 0) (λ r h. omega arith))
+
 -- sums of sums change places
 pub sum-below-exchange : (m n : ℕ) (f : ℕ → ℕ → ℕ) → sumBelow m (λ r. sumBelow n (f r)) ≡ sumBelow n (λ p. sumBelow m (λ r. f r p))
 unfolding sumBelow
-sum-below-exchange zero n f = sym (omega (arith, sum-below-most n 0 (λ p. 0) (λ p h. omega arith)))
+sum-below-exchange zero n f = sym (sum-below-none n)
 sum-below-exchange (suc m) n f =
     ap (λ (x : ℕ). x + sumBelow n (f m)) (sum-below-exchange m n f) ∙ sym (sum-below-add n (λ p. sumBelow m (λ r. f r p)) (f m))
 

@@ -1,8 +1,8 @@
 // The inputs, one a line, in the form that `input` describes.
 
-// Whole records: gates of each n, of n 0 and of negative size, witnesses with counts of one and two digits, and a job that stays
-// open, alone and beside others.
-pub const WHOLE: [u8; 732] = *b"\
+// Whole records: gates of each n, of n 0 and of negative size, witnesses with counts of one and two digits and on the highest rows, and a
+// job that stays open, alone and beside others.
+pub const WHOLE: [u8; 884] = *b"\
 empty\n\
 nine-bytes 1 010208010206010102\n\
 n-0 1 010001010000\n\
@@ -17,7 +17,9 @@ binate 1 010206010396\n\
 looped 1 010488f80105a0a8e8f80106808080a8e8faecfe\n\
 counts 1 0105a8e8a8ff01060080c0e000ffc0ff010700f000ff00f000ff00f080ffaafaeaff\n\
 open 1 0108000000000000a0a0000080808080a0a80080a0a0a0a8eaeaa0a0a8e8aafaffff\n\
-open-in-the-middle 1 010102 1 0108000000000000a0a0000080808080a0a80080a0a0a0a8eaeaa0a0a8e8aafaffff 1 010206\n";
+open-in-the-middle 1 010102 1 0108000000000000a0a0000080808080a0a80080a0a0a0a8eaeaa0a0a8e8aafaffff 1 010206\n\
+highest-rows 1 01080000000000000000000000000000000000000000000000000000000000000090\
+01080000000000000000000000000000000000000000000000000000000000000060\n";
 
 // Refused records, the first of an input or after whole ones: 1 where the input ends in each field, then 2, 3, 4, and 5 for kinds that are
 // not 1. What follows is not read.

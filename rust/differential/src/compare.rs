@@ -33,7 +33,7 @@ pub struct Outcome {
     pub lent: Lent,
 }
 
-/// The description of a call, of a report, or of an entry of the page of heights, on which the two disagree.
+/// The description of a call, of a report, or of a line of the page of heights, on which the two disagree.
 #[derive(Debug)]
 pub struct Difference(String);
 
@@ -163,9 +163,9 @@ impl Difference {
         ))
     }
 
-    /// The description of a row of the page whose height, or the number of whose line, is not the reference's.
-    pub fn of_heights(row: usize, part: &str, found: usize, reference: usize) -> Difference {
-        Difference(format!("difference in the page of heights\n  row {row}: {part} {found}, the reference has {reference}"))
+    /// The description of a line of the page of heights that has not the reference's numbers.
+    pub fn of_heights(found: &str, reference: &[usize]) -> Difference {
+        Difference(format!("difference in the page of heights\n  found {found}\n  the reference has {reference:?}"))
     }
 }
 

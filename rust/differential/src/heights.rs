@@ -1,29 +1,21 @@
-//! The page of heights in docs/HEIGHTS.md, whose table the program `heights_main` prints.
+//! The page of heights: what `heights_main` has stored, which is the table of docs/HEIGHTS.md.
 
 use crate::compare::Difference;
 use reference::table::true_inputs;
 
-const PAGE: &str = include_str!("../../../docs/HEIGHTS.md");
+/// The stored run: two lines of head, then lines with the number of a row and the heights of sixteen rows from it on.
+const STORED: &str = include_str!("../../../crates/heights_main/stdout");
 
-/// Compares the entries with the reference's, row by row, and counts them.
+/// Compares each entry with the reference's count, and counts the entries.
 pub fn compare_heights() -> Result<usize, Difference> {
-    let mut row = 0;
-    for [first, heights @ ..] in lines() {
-        if first != row {
-            return Err(Difference::of_heights(row, "line", first, row));
+    let mut compared = 0;
+    for line in STORED.lines().skip(2) {
+        let numbers: Vec<usize> = line.trim_matches('|').split('|').filter_map(|cell| cell.trim().parse().ok()).collect();
+        let expected: Vec<usize> = [compared].into_iter().chain((compared..compared + 16).map(|row| true_inputs(row, 8))).collect();
+        if numbers != expected {
+            return Err(Difference::of_heights(line, &expected));
         }
-        for height in heights {
-            if height != true_inputs(row, 8) {
-                return Err(Difference::of_heights(row, "height", height, true_inputs(row, 8)));
-            }
-            row += 1;
-        }
+        compared += 16;
     }
-    Ok(row)
-}
-
-/// The lines of the table: the number of the first row, and the heights of sixteen rows.
-fn lines() -> impl Iterator<Item = [usize; 17]> {
-    let numbers = |line: &str| line.split('|').filter_map(|cell| cell.trim().parse().ok()).collect::<Vec<usize>>();
-    PAGE.lines().filter_map(move |line| numbers(line).try_into().ok())
+    Ok(compared)
 }

@@ -1,4 +1,4 @@
-//! "Kinds, Chow, report": the report of an input, with the mean of document 02, §1.
+//! "Kinds, Chow, report": the report of an input, with the mean of document 02, §1, and the heights of its §2.
 
 use crate::job::{Job, Stage};
 use crate::record::Record;

@@ -1,6 +1,6 @@
 -- `witness::height_term` meets its contract. The count is below 2^32 and the row has at most eight true inputs, so the product fits. Assumes
 -- nothing.
-use mathlib.Core.Path.{_≡_, refl, sym, _∙_, ap}
+use mathlib.Core.Path.{_≡_, refl, _∙_, ap}
 use mathlib.Core.Bool.{Bool, true, false}
 use mathlib.Core.List.{List}
 use Prim.Native.Nat.{ℕ, _*_, _≤_}
@@ -32,10 +32,15 @@ mul-result : tie.Need-mul-result
 mul-result c = rw (read (start c)) (omega (arith, most (start c)))
 
 returns : tie.Need-returns
-returns c = rw (sym (c .before .before .row-value .ensures) ∙ c .before .if2 .taken, read (start c)) (refl, most (start c))
+returns c =
+    let is-true : value (start c .args .table) (start c .args .row) ≡ true = cc (c .before .before .row-value .ensures, c .before .if2 .taken) in
+    rw (is-true, read (start c)) (refl, most (start c))
 
 returns-2 : tie.Need-returns-2
-returns-2 c = rw (sym (c .before .row-value .ensures) ∙ c .if2 .left) (refl, omega arith)
+returns-2 c =
+    let a = c .before .before .before .args in
+    let is-false : value (a .table) (a .row) ≡ false = cc (c .before .row-value .ensures, c .if2 .left) in
+    rw is-false (refl, omega arith)
 
 -- a count of 0 adds nothing
 none-added : (v : Bool) (x : ℕ) → 0 ≡ onlyIf v (0 * x)
