@@ -107,7 +107,8 @@ pub fn mean_is_rounded()
     ensures { λ _. ⌜ MeanIsRounded ⌝ }
 {}
 
-// Document 02, §2: the height of a witness is added up by the manual's page, over its true rows or, if it balances, over its false ones.
+// Document 02, §2: an entry of the manual's page is the number of true inputs of its row; the height of a witness is added up by the page, over
+// its true rows or, if it balances, over its false ones; and it is document 01's height by counting bits.
 pub fn heights_by_the_page()
     ensures { λ _. ⌜ HeightsByThePage ⌝ }
 {}
