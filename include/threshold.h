@@ -1,16 +1,22 @@
 /* The threshold cell verdict: whether one threshold gate can carry a Boolean function of up to eight inputs.
  *
- * Every call takes a record (document 01, "Records") as bytes and gives a number: what the call says, 0 or above, or the negative of
- * the number of a refusal. Any bytes are answered. The caller sees to the pointers alone: `record` and `out` are valid for their lengths
- * and not null even where that is 0, `made` is valid and not null, no two of the three overlap, and no one else writes any of them during
- * the call. Nothing is kept after a call.
+ * A record is a table, alone or with a gate, a witness or an open job, as bytes: docs/FORMAT.md describes it byte by byte. Tables come from
+ * hex digits or words by threshold_from_hex and threshold_from_words, and the numbers of a gate or a witness from its record by
+ * threshold_gate and threshold_witness, so that a caller need not read or write those bytes.
  *
- * A call with `out` and `room` writes its answer to the start of the buffer and returns the length. It changes no byte past that, and
- * none at all where it refuses. THRESHOLD_ROOM bytes are enough for every answer. A call with `made` sets it to the corrections made in
- * this call, 0 to THRESHOLD_CALL_BUDGET; where it refuses, `made` keeps its value.
+ * Every call returns a number: what it says, 0 or above, or the negative of the number of a refusal; threshold_refusal_text has the words.
+ * Any content is answered. The caller sees to the pointers alone: each is valid for its length, or null with length 0; `made` and
+ * `threshold` are valid; nothing that a call writes overlaps anything else that is lent to it; and no one else writes what is lent during
+ * the call.
  *
- * Refusals, the first that holds in this order: what reading gives (1 to 9, field by field as document 01 orders them), then
- * THRESHOLD_REFUSED_OTHER_KIND, then the call's own, lowest number first.
+ * A call that writes numbers or bytes writes them to the start of what is lent, changes nothing past them, and nothing at all where it
+ * refuses. THRESHOLD_ROOM bytes are enough for every answer.
+ *
+ * Threads: nothing is kept after a call and nothing is shared between calls, so any number may run at once. No call allocates memory,
+ * opens a file or ends the program. Stack: a call uses less than THRESHOLD_STACK bytes.
+ *
+ * Refusals, the first that holds in this order: what reading a record gives (1 to 9, field by field), then THRESHOLD_REFUSED_OTHER_KIND,
+ * then the call's own in the order named at the call.
  */
 #ifndef THRESHOLD_H
 #define THRESHOLD_H
@@ -22,8 +28,12 @@
 extern "C" {
 #endif
 
-/* Room for every answer. */
+/* The version of this header and of the library that it came with. */
+#define THRESHOLD_VERSION "0.2.0"
+
+/* Room for every answer, and stack for every call, in bytes. */
 #define THRESHOLD_ROOM 2048
+#define THRESHOLD_STACK 65536
 
 /* The most corrections of one call, and of one job. */
 #define THRESHOLD_CALL_BUDGET 100000
@@ -45,8 +55,8 @@ enum {
     THRESHOLD_INPUT_BINATE = 3
 };
 
-/* Refusals; a call returns the negative. 1 to 15 are document 01's numbers, of which no call here gives 13 or 15; 100 is this
- * interface's own. */
+/* Refusals; a call returns the negative. 1 to 15 are document 01's numbers, of which no call here gives 13 or 15; those from 100 on are
+ * this interface's own. */
 enum {
     THRESHOLD_REFUSED_ENDS_EARLY = 1,    /* the bytes end early */
     THRESHOLD_REFUSED_INPUTS = 2,        /* n above 8 */
@@ -63,8 +73,53 @@ enum {
     THRESHOLD_REFUSED_ENDED = 13,        /* an ended job to be saved */
     THRESHOLD_REFUSED_ROW = 14,          /* a row at or above 2^n */
     THRESHOLD_REFUSED_REPORT_INPUT = 15, /* an input of the report above 65,536 bytes */
-    THRESHOLD_REFUSED_OTHER_KIND = 100   /* a record that is whole and right, of a kind that the call does not take */
+    THRESHOLD_REFUSED_OTHER_KIND = 100,  /* a record that is whole and right, of a kind that the call does not take */
+    THRESHOLD_REFUSED_DIGITS = 101,      /* not as many hex digits as a table of n inputs has */
+    THRESHOLD_REFUSED_DIGIT = 102,       /* a character that is not a hex digit */
+    THRESHOLD_REFUSED_WORDS = 103,       /* fewer words than a table of n inputs has */
+    THRESHOLD_REFUSED_NUMBERS = 104      /* not a weight for each input of the table, or not a count for each of its rows */
 };
+
+/* The text of the refusal that a call has returned; of 0 and above, and of numbers that no call returns, "no refusal". */
+static inline const char *threshold_refusal_text(int64_t returned) {
+    switch (returned) {
+    case -THRESHOLD_REFUSED_ENDS_EARLY: return "the bytes end early";
+    case -THRESHOLD_REFUSED_INPUTS: return "more than eight inputs";
+    case -THRESHOLD_REFUSED_SPARE_BIT: return "a spare bit of the table is set";
+    case -THRESHOLD_REFUSED_NUMBER: return "a number is not in shortest form, or has over three groups";
+    case -THRESHOLD_REFUSED_KIND: return "the kind byte is not 1 to 4";
+    case -THRESHOLD_REFUSED_BYTES_LEFT: return "bytes are left after the record";
+    case -THRESHOLD_REFUSED_GATE: return "a weight or the threshold is beyond 1,000,000 either way";
+    case -THRESHOLD_REFUSED_ROW_LIST: return "the counts are all 0, or one is above 1,000,000, or the row list breaks its rules";
+    case -THRESHOLD_REFUSED_UNSOUND: return "the job is not sound";
+    case -THRESHOLD_REFUSED_BUDGET: return "the budget is not within 1 to 100,000";
+    case -THRESHOLD_REFUSED_CAP: return "the budget passes the cap of 1,000,000 corrections";
+    case -THRESHOLD_REFUSED_ROOM: return "the answer is longer than the room";
+    case -THRESHOLD_REFUSED_ENDED: return "the job has ended";
+    case -THRESHOLD_REFUSED_ROW: return "the row is past the table";
+    case -THRESHOLD_REFUSED_REPORT_INPUT: return "the report's input is above 65,536 bytes";
+    case -THRESHOLD_REFUSED_OTHER_KIND: return "a kind of record that the call does not take";
+    case -THRESHOLD_REFUSED_DIGITS: return "not as many hex digits as the table has";
+    case -THRESHOLD_REFUSED_DIGIT: return "a character is not a hex digit";
+    case -THRESHOLD_REFUSED_WORDS: return "fewer words than the table has";
+    case -THRESHOLD_REFUSED_NUMBERS: return "not a weight for each input, or not a count for each row";
+    default: return "no refusal";
+    }
+}
+
+/* ---- tables, as they are written elsewhere */
+
+/* Writes the table (kind 1) of `inputs` inputs that hex digits stand for, as ABC and kitty write them: the digit of the highest rows
+ * first, of four rows each, so 2^n / 4 digits, or one where n is below 2. Either case; no prefix. Bits past the rows of a table under two
+ * inputs are left out of account. Returns the length. Refusals: 2, 101, 102, 12. */
+int64_t threshold_from_hex(uint32_t inputs, const char *digits, size_t length, uint8_t *out, size_t room);
+
+/* Writes the table (kind 1) of `inputs` inputs that words of 64 rows stand for: row r is bit r mod 64 of word r div 64. Bits past the rows
+ * of a table under six inputs, as where the rows are replicated, and words past the table, are left out of account. Returns the length.
+ * Refusals: 2, 103, 12. */
+int64_t threshold_from_words(uint32_t inputs, const uint64_t *words, size_t count, uint8_t *out, size_t room);
+
+/* ---- jobs */
 
 /* Decides a table (kind 1) within 100,000 corrections. Writes the table with its gate (kind 2), with a balanced witness, after which it
  * has no gate (kind 3), or with the open job, given up so far (kind 4). Sets `made` to the corrections made. Returns the length written.
@@ -75,9 +130,37 @@ int64_t threshold_decide(const uint8_t *record, size_t length, uint8_t *out, siz
  * stays as it is, so a refused call can be made again. Refusals: reading's, 100, 10, 11, 12. */
 int64_t threshold_carry_on(const uint8_t *record, size_t length, uint32_t budget, uint8_t *out, size_t room, uint32_t *made);
 
+/* Writes the fresh job of a table (kind 1), at which no correction is made, to be carried on by budgets of one's own (kind 4). If an input
+ * is binate the job has ended: writes the table with its witness (kind 3). Returns the length. Refusals: reading's, 100, 12. */
+int64_t threshold_fresh(const uint8_t *record, size_t length, uint8_t *out, size_t room);
+
+/* The corrections made so far, K, of an open job (kind 4). Refusals: reading's, 100. */
+int64_t threshold_corrections(const uint8_t *record, size_t length);
+
+/* ---- certificates */
+
 /* Checks a certificate from anyone: 1 if the gate (kind 2) has the table's value on every row, or the witness (kind 3) balances; 0 if
  * not. Refusals: reading's, 100. */
 int64_t threshold_check(const uint8_t *record, size_t length);
+
+/* Writes the weights of a table's gate (kind 2), from input 1 on, and sets `threshold` to T. Returns n, the number of weights written; 8 is
+ * room for all. Refusals: reading's, 100, 12. */
+int64_t threshold_gate(const uint8_t *record, size_t length, int32_t *weights, size_t room, int32_t *threshold);
+
+/* Writes the count of each row of a table's witness (kind 3), from row 0 on. Returns 2^n, the number of counts written; 256 is room for all.
+ * Refusals: reading's, 100, 12. */
+int64_t threshold_witness(const uint8_t *record, size_t length, uint32_t *counts, size_t room);
+
+/* Writes a table (kind 1) with a gate for it from anyone (kind 2), to be checked: a weight for each input, and T. Returns the length.
+ * Refusals: reading's, 100, 104, 7, 12. */
+int64_t threshold_from_gate(const uint8_t *record, size_t length, const int32_t *weights, size_t count, int32_t threshold, uint8_t *out,
+    size_t room);
+
+/* Writes a table (kind 1) with a witness against it from anyone (kind 3), to be checked: a count for each row. Returns the length.
+ * Refusals: reading's, 100, 104, 8, 12. */
+int64_t threshold_from_witness(const uint8_t *record, size_t length, const uint32_t *counts, size_t count, uint8_t *out, size_t room);
+
+/* ---- records and tables */
 
 /* The kind, 1 to 4, of a record that is whole and right. Refusals: reading's. */
 int64_t threshold_kind(const uint8_t *record, size_t length);

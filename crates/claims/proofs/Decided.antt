@@ -37,8 +37,9 @@ use Rattle.reporting.specs.Report.{inputMost, noTally, counted, recordThen, rep
 use Rattle.job.proofs.DecidedLaws.{decided-table}
 use Rattle.theory.proofs.Answers.{EndedWithout, found-realises, found-accepted, ended-balances, ended-accepted, ended-excludes}
 use Rattle.outcome.specs.Outcome.{outcomeIn, outcome, outcomeWritten, Handed, handedBack}
-use Rattle.threshold.specs.Interface.{tableRead, jobRead, decide, carriedOn}
-use Rattle.threshold.proofs.TakenLaws.{is-table, is-job}
+use Rattle.threshold.specs.Interface.{decide, carriedOn}
+use Rattle.requests.specs.Taken.{tableRead, jobRead}
+use Rattle.requests.proofs.TakenLaws.{is-table, is-job}
 use Rattle.outcome.proofs.DecidedLaws.{decided-kept, carried-kept}
 use Rattle.claims.specs.Jobs.{Taken}
 use Rattle.claims.specs.Decided.{RightWitness, Right, gate, witness, given-up, outcomeText, outcomeLine, RightLine, RightLines, table, refusal, last, RightHanded, DecidedIsRight}

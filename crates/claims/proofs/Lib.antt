@@ -22,3 +22,5 @@ pub mod Traces
 pub mod Mean
 -- the height of a witness by the manual's page, over the rows of either value
 pub mod Heights
+-- tables from hex digits and words
+pub mod Elsewhere

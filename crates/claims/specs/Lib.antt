@@ -12,3 +12,5 @@ pub mod Lists
 pub mod Report
 -- what a user meets, the report and the C records, is right
 pub mod Decided
+-- tables from hex digits and words mean what they say, row by row
+pub mod Elsewhere

@@ -9,6 +9,7 @@ ghost use Rattle.records.specs.Record.{ofTable, ofGate, ofWitness, ofJob};
 ghost use Rattle.claims.specs.Lists.{CallsAreTheMachine};
 ghost use Rattle.claims.specs.Report.{ReportIsItsLines, MeanIsRounded, HeightsByThePage};
 ghost use Rattle.claims.specs.Decided.{DecidedIsRight};
+ghost use Rattle.claims.specs.Elsewhere.{TablesFromElsewhere};
 ghost use Rattle.claims.specs.Records.{ReadsBack, WritesBack, RecordsAreWritten};
 ghost use Rattle.claims.specs.Jobs.{JobNumbersOnTheirConditions, SoundnessIsKept, ShownIsRight, CarryOnIsTheMachine, CorrectionsAreBounded, WhatFitsIsFound};
 ghost use Rattle.types.specs.declared.table.Table.{Table};
@@ -122,3 +123,8 @@ pub fn what_is_decided_is_right(bytes: &[u8])
 
 // Does nothing. A claim about a slice calls it: where a function calls another, its proof knows that the slice holds bytes.
 fn nothing() {}
+
+// Tables from hex digits and words have, row by row, the values that these stand for.
+pub fn tables_from_elsewhere()
+    ensures { λ _. ⌜ TablesFromElsewhere ⌝ }
+{}

@@ -6,7 +6,7 @@ use Prim.Native.Nat.{ℕ, _+_, _≤_}
 use lib.ListN.{length, take, drop}
 
 -- the buffer with bytes from a position on: all others keep their values
-abbrev pub writtenAt : List ℕ → ℕ → List ℕ → List ℕ
+abbrev pub writtenAt : {A : Type 0} → List A → ℕ → List A → List A
 writtenAt old at bytes = take at old ++ (bytes ++ drop (at + length bytes) old)
 
 -- a buffer has room for bytes from a position on

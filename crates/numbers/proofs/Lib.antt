@@ -14,3 +14,5 @@ pub mod FirstLaws
 pub mod TabulateLaws
 -- powers of two, and the highest: what it is, and how it goes on from a number to the next
 pub mod PowerLaws
+-- the bits of a number under the operations on words
+pub mod PackedLaws

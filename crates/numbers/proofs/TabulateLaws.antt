@@ -3,12 +3,12 @@
 use mathlib.Core.Path.{_≡_, refl, sym, _∙_, ap, ap₂}
 use mathlib.Core.List.{List, [], _∷_, _++_, append-nil, append-assoc}
 use mathlib.Core.Logic.{⊎-elim}
-use Prim.Native.Nat.{ℕ, zero, suc, _+_, _<_, _≤_}
+use Prim.Native.Nat.{ℕ, zero, suc, _+_, _-_, _<_, _≤_}
 use native.Mathlib.Nat.{eq-or-lt-of-le, le-of-suc-le-suc}
 use native.Mathlib.Numerals.{add-one}
 use native.Mathlib.Omega.{arith}
-use lib.ListN.{length, getD, set, drop, length-append, length-drop, drop-of-length-le, List·getD-append}
-use lib.Seq.{drop-cons, set-at, getD-at, getD-drop, getD-append-add, ext-getD}
+use lib.ListN.{length, getD, set, drop, replicate, length-append, length-drop, length-replicate, drop-of-length-le, replicate-append-replicate, List·getD-append}
+use lib.Seq.{drop-at, drop-cons, set-at, getD-at, getD-drop, getD-append-add, ext-getD}
 use Rattle.numbers.specs.Tabulate.{tabulate}
 
 -- the array `old` after a loop has stored f at each index below i
@@ -78,3 +78,11 @@ unfolding tabulate
 tabulate-ext f g zero h = refl
 tabulate-ext {A} f g (suc m) h =
     ap₂ (λ (l : List A) (x : A). l ++ (x ∷ [])) (tabulate-ext f g m (λ i k. h i (omega arith))) (h m (omega arith))
+
+-- what is behind the first m of n equal elements
+pub drop-replicate : {A : Type 0} (m n : ℕ) (a : A) → m ≤ n → drop m (replicate n a) ≡ replicate (n - m) a
+drop-replicate m n a h =
+    let both : m + (n - m) ≡ n = omega arith in
+    ap (λ (k : ℕ). drop m (replicate k a)) (sym both)
+    ∙ ap (drop m) (sym (replicate-append-replicate m (n - m) a))
+    ∙ drop-at (replicate m a) (replicate (n - m) a) m (length-replicate m a)

@@ -6,3 +6,5 @@ pub mod Tests
 pub mod Tabulate
 -- the highest power of two
 pub mod Power
+-- numbers by their bits
+pub mod Packed

@@ -41,7 +41,11 @@ module _ (t : Table) (kept : NoneBroken (tableRules t [])) where
   sound : Sound (fresh t)
   sound = fresh-sound t (kept-inputs t kept)
 
-  -- the job keeps its rules
+  -- the fresh job keeps its rules
+  pub fresh-job-kept : NoneBroken (jobRules (fresh t) [])
+  fresh-job-kept = job-all-kept (fresh t) fresh-kept (is-sound-correct (fresh t) .1 sound) none
+
+  -- so does the job after it
   pub decided-kept : NoneBroken (jobRules (decided t) [])
   decided-kept = run-kept (fresh t) callBudget fresh-kept sound (omega (arith, fresh-k t))
 

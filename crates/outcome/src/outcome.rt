@@ -28,7 +28,7 @@ fn witness_of(state: State) -> Witness
 
 // Writes what a job, a table with a state, has come to: a found one's table and gate, an otherwise ended one's table and witness, or the
 // open job. Refusal: 12.
-fn write_outcome(table: Table, state: State, out: &mut [u8]) -> Written
+pub fn write_outcome(table: Table, state: State, out: &mut [u8]) -> Written
     requires { ⌜ NoneBroken (jobRules (jobOf table state) []) ⌝ }
     ensures { λ r. ⌜ WroteBytes (outcomeWritten (length (now (out .entry))) (jobOf table state)) (now (out .entry)) r (now (out .exit)) ⌝ }
 {

@@ -7,9 +7,10 @@ use Prim.Native.Nat.{ℕ, _+_, _-_, _≤_, _<_}
 use native.Mathlib.Nat.{zero-add}
 use native.Mathlib.Numerals.{add-one}
 use native.Mathlib.Omega.{arith}
-use lib.ListN.{length, getD, set, take, drop, replicate, length-drop, length-replicate, replicate-append-replicate}
-use lib.Seq.{paste-suc, drop-at, length-take-le, getD-drop}
+use lib.ListN.{length, getD, set, take, drop, replicate, length-drop}
+use lib.Seq.{paste-suc, length-take-le, getD-drop}
 use borrow.Author.Tests.{lt-ltb, le-ltb}
+use Rattle.numbers.proofs.TabulateLaws.{drop-replicate}
 use Rattle.table.specs.Table.{rowsOf, bitBytes, padded, spareSet}
 use Rattle.cell.specs.Refusal.{answered, refused}
 use Rattle.codec.specs.Field.{Field, field}
@@ -31,16 +32,9 @@ pub copied-more : (old s : List ℕ) (at i : ℕ) → i < length old → at + i 
 copied-more old s at i h k =
     rw (← getD-drop at s i 0, add-one) (simp zero-add at (paste-suc old 0 (drop at s) i 0 (omega arith) (rw length-drop (omega arith))))
 
-drop-replicate : (m n a : ℕ) → m ≤ n → drop m (replicate n a) ≡ replicate (n - m) a
-drop-replicate m n a h =
-    let both : m + (n - m) ≡ n = omega arith in
-    ap (λ (k : ℕ). drop m (replicate k a)) (sym both)
-    ∙ ap (drop m) (sym (replicate-append-replicate m (n - m) a))
-    ∙ drop-at (replicate m a) (replicate (n - m) a) m (length-replicate m a)
-
 -- in an array of n zeros, zeros are left behind the bytes
 pub copied-zeros : (n : ℕ) (t : List ℕ) (m : ℕ) → m ≤ n → m ≤ length t → copied (replicate n 0) t m ≡ take m t ++ replicate (n - length (take m t)) 0
-copied-zeros n t m h k = rw (length-take-le m t, drop-replicate m n 0)
+copied-zeros n t m h k = rw (length-take-le m t, drop-replicate {A = ℕ} m n 0)
 
 -- ---- the bits of rows
 

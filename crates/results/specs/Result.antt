@@ -13,6 +13,8 @@ use Rattle.cell.specs.declared.refusal.Answer.the-variants as Answer′
 use Rattle.types.specs.declared.kind.Kind.{Kind}
 use Rattle.codec.specs.Kind.{Family, kindOf}
 use Rattle.reading.specs.Fields.{familyOf}
+use Rattle.writers.specs.declared.write.Written.{Written}
+use Rattle.writers.specs.declared.write.Written.the-variants as Written′
 use Rattle.writers.specs.Calls.{lent}
 
 -- the number that is returned: the answer's, or the negative of the refusal's
@@ -29,13 +31,13 @@ yesOrNo false = 0
 abbrev pub said : Answered Bool → Answered ℕ
 said a = andThen a (λ b. answered (yesOrNo b))
 
--- bytes to write as their length
-abbrev pub measured : Answered (List ℕ) → Answered ℕ
+-- bytes to write, or other numbers, as their length
+abbrev pub measured : {A : Type 0} → Answered (List A) → Answered ℕ
 measured a = andThen a (λ bytes. answered (length bytes))
 
--- a call that writes has come to this: it returns the length of its bytes, which stand in the lent buffer, the rest as it was; or it returns
--- its refusal, and the buffer is as it was
-abbrev pub Returned : Answered (List ℕ) → (old : List ℕ) → ℤ → (new : List ℕ) → Type 0
+-- a call that writes bytes, or other numbers, has come to this: it returns their length, and they stand in the lent buffer, the rest as it
+-- was; or it returns its refusal, and the buffer is as it was
+abbrev pub Returned : {A : Type 0} → Answered (List A) → (old : List A) → ℤ → (new : List A) → Type 0
 Returned a old r new = (r ≡ asResult (measured a)) × (new ≡ lent old a)
 
 -- ---- the kinds that a call takes
@@ -62,6 +64,11 @@ abbrev pub saidOf : {A : Type 0} → Kind → List (Case A) → Answered A
 saidOf kind cases = andThen (familyOf kind) (caseOf cases)
 
 -- ---- the code's enums
+
+-- what a writer of records answers: a length, or the number of a refusal
+abbrev pub lengthBy : Written → Answered ℕ
+lengthBy (Written′.Bytes n) = answered n
+lengthBy (Written′.Refused n) = refused n
 
 -- what an answer says: yes, no or the number of a refusal
 abbrev pub saidBy : Answer → Answered Bool

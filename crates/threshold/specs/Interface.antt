@@ -1,43 +1,17 @@
 -- The calls of the C interface: what each comes to, over the bytes of a record (document 01, "Records"), its numbers, and the room of the
--- lent buffer. Each goes by what reading gives first, then `otherKind` for a kind that it does not take, then its own numbers. Definitions
+-- lent buffer. Each goes by what reading gives first, then `otherKind` for a kind that it does not take, then its own numbers. The calls from
+-- hex digits and words stand in `imports/specs/Imports.antt`, those on numbers and fresh jobs in `requests/specs/Requests.antt`. Definitions
 -- only. Assumes nothing.
-use mathlib.Core.List.{List, [], _∷_}
+use mathlib.Core.List.{List}
 use Prim.Native.Nat.{ℕ}
-use Rattle.types.specs.declared.table.Table.{Table}
 use Rattle.table.specs.Inputs.{kindsOf}
 use Rattle.table.specs.Chow.{chowOf}
-use Rattle.cell.specs.Refusal.{Answered, answered, andThen}
-use Rattle.job.specs.declared.job.Job.{Job}
-use Rattle.codec.specs.Kind.{tables, jobs}
-use Rattle.records.specs.declared.read.Read.{Read}
-use Rattle.records.specs.Record.{readRecord}
-use Rattle.records.specs.Calls.{asRead}
+use Rattle.cell.specs.Refusal.{Answered, andThen}
 use Rattle.writers.specs.Calls.{fitted}
-use Rattle.results.specs.Result.{case, saidOf}
 use Rattle.certificates.specs.Certificate.{checkIn, kindIn, valueIn}
 use Rattle.inputs.specs.Inputs.{inputBytes, chowBytes}
 use Rattle.outcome.specs.Outcome.{Handed, decidedBack, carriedBack}
-
--- ---- what a call takes
-
--- what was read of bytes: the kind and the parts of their record, or the number of the refusal
-abbrev pub partsOf : List ℕ → Read
-partsOf s = asRead (readRecord s)
-
--- the table of a record of kind 1
-abbrev pub tableTaken : Read → Answered Table
-tableTaken r = saidOf (r .kind) (case tables (answered (r .table)) ∷ [])
-
--- the open job of a record of kind 4
-abbrev pub jobTaken : Read → Answered Job
-jobTaken r = saidOf (r .kind) (case jobs (answered (r .job)) ∷ [])
-
--- what bytes mean to a call on a table, and to a call on a job
-abbrev pub tableRead : List ℕ → Answered Table
-tableRead s = tableTaken (partsOf s)
-
-abbrev pub jobRead : List ℕ → Answered Job
-jobRead s = jobTaken (partsOf s)
+use Rattle.requests.specs.Taken.{partsOf, tableRead, jobRead}
 
 -- ---- decide and carry on
 

@@ -1,6 +1,8 @@
-// The C interface: seven calls on records as bytes and on numbers. Each returns what it gives, 0 or above, or the negative of document 01's
-// number of the refusal, or of 100 for a kind that the call does not take; a lent buffer is changed in the bytes of the answer
-// alone, and a lent number by an accepted call alone.
+// The C interface: fifteen calls on records as bytes, on digits and words, and on numbers. Each returns what it gives, 0 or above, or the negative
+// of the number of the refusal: document 01's, or one from 100 on, which are the interface's own. What is lent to be written is changed in
+// the answer alone, and by an accepted call alone.
 mod certificate;
+mod elsewhere;
 mod jobs;
+mod numerals;
 mod tables;

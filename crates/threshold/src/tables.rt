@@ -9,7 +9,8 @@ ghost use Rattle.cell.specs.Refusal.{andThen};
 ghost use Rattle.writers.specs.Calls.{fitted};
 ghost use Rattle.results.specs.Result.{Returned};
 ghost use Rattle.inputs.specs.Inputs.{askedBytes};
-ghost use Rattle.threshold.specs.Interface.{tableRead, kinds, chow};
+ghost use Rattle.requests.specs.Taken.{tableRead};
+ghost use Rattle.threshold.specs.Interface.{kinds, chow};
 
 // Writes what is asked of the table of a kind 1 record. Returns the length. Refusals: 1 to 9 as the record is read, 100 for another kind, 12.
 fn on_table(asked: Asked, bytes: &[u8], out: &mut [u8]) -> i64

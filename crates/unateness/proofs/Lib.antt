@@ -1,5 +1,3 @@
--- the bits of a number under the operations on words
-pub mod WordLaws
 -- the bytes of a table as words, and the pairs of an input
 pub mod PairLaws
 -- a row turns the value by its bit and its partner's; a search finds one if some word of them is not 0

@@ -16,9 +16,10 @@ use Rattle.table.specs.Table.{bitAt}
 use Rattle.function.specs.Function.{level}
 use Rattle.table.proofs.TableLaws.{partner-below}
 use Rattle.machine.proofs.ValueLaws.{byte-bit}
-use Rattle.unateness.specs.Words.{packed, wordOf, bitsFrom, lacks, ownAt, partnerAt}
+use Rattle.numbers.specs.Packed.{packed}
+use Rattle.unateness.specs.Words.{wordOf, bitsFrom, lacks, ownAt, partnerAt}
 use Rattle.machine.specs.Scan.{inTable}
-use Rattle.unateness.proofs.WordLaws.{packed-ext, packed-and, packed-none, packed-append, packed-digits, packed-cut, packed-shift}
+use Rattle.numbers.proofs.PackedLaws.{packed-ext, packed-and, packed-none, packed-append, packed-digits, packed-cut, packed-shift}
 
 -- ---- the bytes
 

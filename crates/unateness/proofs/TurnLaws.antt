@@ -20,9 +20,10 @@ use Rattle.function.specs.Turns.{turnsAt, firstTurn}
 use Rattle.table.proofs.TableLaws.{rows-le, partner-below}
 use Rattle.table.proofs.OnTables.{table-turns}
 use Rattle.function.proofs.TurnLaws.{first-turn-some, first-turn-none}
-use Rattle.unateness.specs.Words.{packed, wordOf, lacks, ownAt, partnerAt}
+use Rattle.numbers.specs.Packed.{packed}
+use Rattle.unateness.specs.Words.{wordOf, lacks, ownAt, partnerAt}
 use Rattle.machine.specs.Scan.{inTable}
-use Rattle.unateness.proofs.WordLaws.{packed-and, packed-or, packed-not, packed-none, packed-zero}
+use Rattle.numbers.proofs.PackedLaws.{packed-and, packed-or, packed-not, packed-none, packed-zero}
 
 -- ---- the words of a loop, gathered
 

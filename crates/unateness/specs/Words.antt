@@ -1,25 +1,16 @@
 -- The values of a table's rows as bits of words, in which the search for a binate input works: row r is bit r mod 64 of word r div 64.
 -- For the inside of the machine alone. Definitions only. Assumes nothing.
-use mathlib.Core.Bool.{Bool, true, false, _&&_}
+use mathlib.Core.Bool.{Bool, _&&_}
 use mathlib.Core.List.{List}
-use Prim.Native.Nat.{ℕ, zero, suc, _+_, _*_, _^_}
+use Prim.Native.Nat.{ℕ, _+_, _*_, _^_}
 use lib.Dec.{eqb}
+use Rattle.numbers.specs.Packed.{packed}
 use Rattle.numbers.specs.Tabulate.{tabulate}
 use Rattle.types.specs.declared.table.Table.{Table}
 use Rattle.table.specs.Table.{rows, bitAt}
 use Rattle.function.specs.Function.{level}
 use Rattle.machine.specs.Scan.{inTable}
 use Rattle.unateness.specs.declared.words.Pairs.{Pairs}
-
--- the bit of a value: 1 where it is true
-abbrev pub bitOf : Bool → ℕ
-bitOf true = 1
-bitOf false = 0
-
--- the number whose bit j is f j for each j below m
-unfoldable pub packed : ℕ → (ℕ → Bool) → ℕ
-packed zero f = 0
-packed (suc m) f = packed m (λ j. f (suc j)) * 2 + bitOf (f 0)
 
 -- word k of the values of f: row 64k + j is its bit j
 abbrev pub wordOf : (ℕ → Bool) → ℕ → ℕ

@@ -5,7 +5,8 @@ ghost use mathlib.Core.Path.{_≡_};
 ghost use mathlib.Core.Bool.{Bool};
 ghost use Prim.Native.Nat.{ℕ, _*_, _≤_, _<_};
 ghost use Rattle.numbers.specs.Tabulate.{tabulate};
-ghost use Rattle.unateness.specs.Words.{packed, lacks, bitsFrom, wordOf, rowWords, pairsOf};
+ghost use Rattle.numbers.specs.Packed.{packed};
+ghost use Rattle.unateness.specs.Words.{lacks, bitsFrom, wordOf, rowWords, pairsOf};
 ghost use Rattle.machine.specs.Scan.{inTable};
 
 // Returns a byte as a word.

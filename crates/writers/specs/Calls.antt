@@ -17,11 +17,11 @@ use Rattle.records.specs.Record.{Record, ofTable, ofGate, ofWitness, ofJob, rec
 -- ---- write a table (2, 3, 12), a gate (2, 3, 7, 12) or a witness (2, 3, 8, 12), and save a job (2, 3, 9, 13, 12)
 
 -- 12: output buffer too short
-abbrev pub tooShort : ℕ → List ℕ → Rule
+abbrev pub tooShort : {A : Type 0} → ℕ → List A → Rule
 tooShort room bytes = rule 12 (ltb room (length bytes))
 
--- bytes to write, in a buffer of so many: 12
-abbrev pub fitted : ℕ → List ℕ → Answered (List ℕ)
+-- bytes to write, or other numbers, in a buffer of so many: 12
+abbrev pub fitted : {A : Type 0} → ℕ → List A → Answered (List A)
 fitted room bytes = checked (tooShort room bytes ∷ []) (answered bytes)
 
 -- 13: saving an ended job
@@ -49,7 +49,7 @@ written (answered bytes) = Written′.Bytes (length bytes)
 written (refused n) = Written′.Refused n
 
 -- the lent buffer after the call: the record, and the bytes past it as they were; unchanged by a refusal
-abbrev pub lent : List ℕ → Answered (List ℕ) → List ℕ
+abbrev pub lent : {A : Type 0} → List A → Answered (List A) → List A
 lent out (answered bytes) = writtenAt out 0 bytes
 lent out (refused n) = out
 

@@ -7,7 +7,9 @@ use Rattle.numbers.proofs.Int.{back}
 use Rattle.outcome.specs.Outcome.{carriedBack}
 use Rattle.outcome.proofs.HandedLaws.{handed-as, handed-refused}
 use Rattle.threshold.specs.Interface.{carriedOn}
-use Rattle.threshold.proofs.TakenLaws.{no-job, with-job}
+use Rattle.codec.specs.Kind.{jobs}
+use Rattle.records.specs.declared.read.Read.{Read}
+use Rattle.requests.proofs.TakenLaws.{not-of, of-family}
 use Rattle.threshold.proofs.jobs.threshold_carry_on.Statement.{statement}
 use Rattle.threshold.proofs.jobs.threshold_carry_on.Tie as tie
 
@@ -17,7 +19,7 @@ unfolding carriedOn
 returns c =
     let keys = c .before in
     let a = keys .before .before .before .before .args in
-    let other = no-job (a .bytes .now) (keys .before .read .ensures) (keys .match .keys2) (carriedBack (a .budget) (length (a .out .now))) in
+    let other = not-of (a .bytes .now) (keys .before .read .ensures) jobs (λ (r : Read). r .job) (carriedBack (a .budget) (length (a .out .now))) (keys .match .keys2) in
     handed-refused (a .out .now) (a .made .now) other (back w64 (c .not-taken .ok) ∙ c .not-taken .ensures)
 
 -- a job
@@ -28,7 +30,7 @@ returns-2 c =
     let told = wrote .before .before .before in
     let given = told .before .before in
     let a = given .before .before .before .args in
-    let whole = with-job (a .bytes .now) (given .read .ensures) (told .enum-told .given .1) (carriedBack (a .budget) (length (a .out .now))) in
+    let whole = of-family (a .bytes .now) (given .read .ensures) jobs (λ (r : Read). r .job) (carriedBack (a .budget) (length (a .out .now))) (told .enum-told .given .1) in
     let ((r, b), made) = wrote .carry-job .ensures in
     handed-as (a .out .now) (a .made .now) whole ((back w64 (wrote .carry-job .ok) ∙ r, b), made)
 

@@ -7,7 +7,9 @@ use borrow.Author.Needs.{needs}
 use Rattle.numbers.proofs.Int.{back}
 use Rattle.outcome.specs.Outcome.{decidedBack}
 use Rattle.outcome.proofs.HandedLaws.{handed-as, handed-refused}
-use Rattle.threshold.proofs.TakenLaws.{no-table, with-table, table-taken}
+use Rattle.codec.specs.Kind.{tables}
+use Rattle.records.specs.declared.read.Read.{Read}
+use Rattle.requests.proofs.TakenLaws.{not-of, of-family, table-kept-read}
 use Rattle.threshold.proofs.jobs.threshold_decide.Statement.{statement}
 use Rattle.threshold.proofs.jobs.threshold_decide.Tie as tie
 
@@ -16,7 +18,7 @@ returns : tie.Need-returns
 returns c =
     let keys = c .before in
     let a = keys .before .before .before .before .args in
-    let other = no-table (a .bytes .now) (keys .before .read .ensures) (keys .match .keys2) (decidedBack (length (a .out .now))) in
+    let other = not-of (a .bytes .now) (keys .before .read .ensures) tables (λ (r : Read). r .table) (decidedBack (length (a .out .now))) (keys .match .keys2) in
     handed-refused (a .out .now) (a .made .now) other (back w64 (c .not-taken .ok) ∙ c .not-taken .ensures)
 
 -- a table
@@ -24,7 +26,7 @@ decide-table-requires : tie.Need-decide-table-requires
 decide-table-requires c κs =
     let told = c .before .before in
     let given = told .before .before in
-    table-taken (given .before .before .before .args .bytes .now) (given .read .ensures)
+    table-kept-read (given .before .before .before .args .bytes .now) (given .read .ensures)
     (λ i h. omega (arith, given .before .before .shared-slice-known .given i)) (told .enum-told .given .1)
 
 returns-2 : tie.Need-returns-2
@@ -33,7 +35,7 @@ returns-2 c =
     let told = wrote .before .before .before in
     let given = told .before .before in
     let a = given .before .before .before .args in
-    let whole = with-table (a .bytes .now) (given .read .ensures) (told .enum-told .given .1) (decidedBack (length (a .out .now))) in
+    let whole = of-family (a .bytes .now) (given .read .ensures) tables (λ (r : Read). r .table) (decidedBack (length (a .out .now))) (told .enum-told .given .1) in
     let ((r, b), made) = wrote .decide-table .ensures in
     handed-as (a .out .now) (a .made .now) whole ((back w64 (wrote .decide-table .ok) ∙ r, b), made)
 

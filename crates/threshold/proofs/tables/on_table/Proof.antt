@@ -13,7 +13,9 @@ use Rattle.cell.specs.Refusal.{Answered}
 use Rattle.writers.specs.Calls.{fitted}
 use Rattle.results.proofs.ResultLaws.{returned-as, returned-refused}
 use Rattle.inputs.specs.Inputs.{askedBytes}
-use Rattle.threshold.proofs.TakenLaws.{no-table, with-table, table-taken}
+use Rattle.codec.specs.Kind.{tables}
+use Rattle.records.specs.declared.read.Read.{Read}
+use Rattle.requests.proofs.TakenLaws.{not-of, of-family, table-kept-read}
 use Rattle.threshold.proofs.tables.on_table.Statement.{statement}
 use Rattle.threshold.proofs.tables.on_table.Tie as tie
 
@@ -26,7 +28,7 @@ returns : tie.Need-returns
 returns c =
     let keys = c .before in
     let s = keys .before .before .before .before in
-    let other = no-table (s .args .bytes .now) (keys .before .read .ensures) (keys .match .keys2) (after s) in
+    let other = not-of (s .args .bytes .now) (keys .before .read .ensures) tables (λ (r : Read). r .table) (after s) (keys .match .keys2) in
     returned-refused (s .args .out .now) other (back w64 (c .not-taken .ok) ∙ c .not-taken .ensures)
 
 -- a table
@@ -34,7 +36,7 @@ put-asked-requires : tie.Need-put-asked-requires
 put-asked-requires c κs =
     let told = c .before in
     let given = told .before .before in
-    table-taken (given .before .before .before .args .bytes .now) (given .read .ensures)
+    table-kept-read (given .before .before .before .args .bytes .now) (given .read .ensures)
     (λ i h. omega (arith, given .before .before .shared-slice-known .given i)) (told .enum-told .given .1)
 
 returns-2 : tie.Need-returns-2
@@ -43,7 +45,7 @@ returns-2 c =
     let told = wrote .before .before in
     let given = told .before .before in
     let s = given .before .before .before in
-    let whole = with-table (s .args .bytes .now) (given .read .ensures) (told .enum-told .given .1) (after s) in
+    let whole = of-family (s .args .bytes .now) (given .read .ensures) tables (λ (r : Read). r .table) (after s) (told .enum-told .given .1) in
     let (r, b) = wrote .put-asked .ensures in
     returned-as (s .args .out .now) whole (back w64 (wrote .put-asked .ok) ∙ r, b)
 

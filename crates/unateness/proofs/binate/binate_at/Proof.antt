@@ -11,7 +11,8 @@ use Rattle.numbers.specs.Tabulate.{tabulate}
 use Rattle.types.specs.declared.table.Table.{Table}
 use Rattle.table.specs.Table.{rows, functionOf}
 use Rattle.unateness.specs.declared.words.Pairs.{Pairs}
-use Rattle.unateness.specs.Words.{packed, wordOf, rowWords}
+use Rattle.numbers.specs.Packed.{packed}
+use Rattle.unateness.specs.Words.{wordOf, rowWords}
 use Rattle.machine.specs.Scan.{inTable}
 use Rattle.function.specs.Binate.{binateAt}
 use Rattle.function.proofs.BinateLaws.{binate-at-searches}

@@ -6,8 +6,9 @@ use native.Mathlib.Nat.{lt-of-lt-of-le}
 use native.Mathlib.Omega.{arith}
 use borrow.Author.Needs.{needs}
 use lib.Pow.{pow-mono}
-use Rattle.unateness.specs.Words.{packed, bitsFrom}
-use Rattle.unateness.proofs.WordLaws.{packed-lt, packed-none}
+use Rattle.numbers.specs.Packed.{packed}
+use Rattle.unateness.specs.Words.{bitsFrom}
+use Rattle.numbers.proofs.PackedLaws.{packed-lt, packed-none}
 use Rattle.unateness.proofs.PairLaws.{bytes-more}
 use Rattle.unateness.proofs.words.eight_bytes.Statement.{statement}
 use Rattle.unateness.proofs.words.eight_bytes.Tie as tie

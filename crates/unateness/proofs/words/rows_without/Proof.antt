@@ -2,7 +2,7 @@
 use mathlib.Core.Path.{_≡_}
 use Prim.Native.Nat.{ℕ, _+_, _≤_}
 use native.Mathlib.Omega.{arith}
-use Rattle.unateness.specs.Words.{packed}
+use Rattle.numbers.specs.Packed.{packed}
 use Rattle.unateness.proofs.words.rows_without.Statement.{statement}
 use Rattle.unateness.proofs.words.rows_without.Tie as tie
 

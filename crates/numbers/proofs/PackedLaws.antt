@@ -9,7 +9,7 @@ use lib.Bits.{bitAnd, bitOr, and-step, or-step}
 use lib.Dec.{eqb, ltb}
 use lib.Pow.{shr-shr, high, low}
 use borrow.Author.Tests.{lt-ltb, le-ltb}
-use Rattle.unateness.specs.Words.{bitOf, packed}
+use Rattle.numbers.specs.Packed.{bitOf, packed}
 
 bit-of-lt : (b : Bool) → bitOf b < 2
 bit-of-lt true = omega arith

@@ -1,0 +1,2 @@
+-- the numbers of gates and witnesses in lent arrays
+pub mod Arrays

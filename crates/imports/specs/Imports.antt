@@ -1,0 +1,85 @@
+-- Tables as they are written elsewhere, as hex digits and as words of 64 rows (docs/FORMAT.md, "Hex digits" and "Words"). No
+-- document has these calls, and their own numbers start at 101. Definitions only. Assumes nothing.
+use mathlib.Core.Bool.{Bool, not, cond, _&&_}
+use mathlib.Core.List.{List, [], _∷_}
+use Prim.Native.Nat.{ℕ, _+_, _-_, _*_, _/_, _%_}
+use lib.Dec.{eqb, leb, ltb}
+use lib.ListN.{length, getD}
+use Rattle.numbers.specs.Packed.{packed, bitIn}
+use Rattle.numbers.specs.Tabulate.{tabulate}
+use Rattle.numbers.specs.Tests.{allBelow}
+use Rattle.types.specs.declared.table.Table.{Table}
+use Rattle.table.specs.Table.{rowsOf}
+use Rattle.cell.specs.Refusal.{Rule, rule, Answered, checked}
+use Rattle.cell.specs.Calls.{tooManyInputs}
+use Rattle.records.specs.Record.{ofTable, recordBytes}
+use Rattle.writers.specs.Calls.{fitted}
+
+-- ---- a table by its rows
+
+-- byte k of so many rows: row 8k + j is its bit j, and rows past them are false
+abbrev pub rowByte : ℕ → (ℕ → Bool) → ℕ → ℕ
+rowByte rows f k = packed 8 (λ j. ltb (8 * k + j) rows && f (8 * k + j))
+
+-- the table of n inputs that is true on the rows of f
+unfoldable pub tableWith : ℕ → (ℕ → Bool) → Table
+tableWith n f = record { n = n; bytes = tabulate 32 (rowByte (rowsOf n) f) }
+
+-- its record: 12
+abbrev pub tableRecord : ℕ → (ℕ → Bool) → ℕ → Answered (List ℕ)
+tableRecord n f room = fitted room (recordBytes (ofTable (tableWith n f)))
+
+-- ---- hex digits: those of the highest four rows first
+
+-- a character lies between two
+abbrev pub between : ℕ → ℕ → ℕ → Bool
+between low high c = leb low c && leb c high
+
+-- the value of a digit, 0 to 9, A to F or a to f; 16 for any other character
+unfoldable pub digitValue : ℕ → ℕ
+digitValue c = cond (between 48 57 c) (c - 48) (cond (between 65 70 c) (c - 65 + 10) (cond (between 97 102 c) (c - 97 + 10) 16))
+
+-- how many digits a table of n inputs has: one for each four rows, and one where there are fewer
+abbrev pub digitCount : ℕ → ℕ
+digitCount n = (rowsOf n + 3) / 4
+
+-- the value of the digit at place i, counted from the last, which is place 0
+abbrev pub digitAt : List ℕ → ℕ → ℕ
+digitAt digits i = digitValue (getD digits (length digits - 1 - i) 0)
+
+-- row r is bit r mod 4 of digit r div 4
+abbrev pub digitRow : List ℕ → ℕ → Bool
+digitRow digits r = bitIn (digitAt digits (r / 4)) (r % 4)
+
+-- 101: not as many digits as the table has
+abbrev pub otherDigits : ℕ → List ℕ → Rule
+otherDigits n digits = rule 101 (not (eqb (length digits) (digitCount n)))
+
+-- 102: a character that is not a digit
+abbrev pub isDigit : List ℕ → ℕ → Bool
+isDigit digits i = ltb (digitValue (getD digits i 0)) 16
+
+abbrev pub noDigit : List ℕ → Rule
+noDigit digits = rule 102 (not (allBelow (length digits) (isDigit digits)))
+
+-- the record of the table that digits stand for: 2, 101, 102, 12
+abbrev pub fromHex : ℕ → List ℕ → ℕ → Answered (List ℕ)
+fromHex n digits room = checked (tooManyInputs n ∷ otherDigits n digits ∷ noDigit digits ∷ []) (tableRecord n (digitRow digits) room)
+
+-- ---- words of 64 rows: those of the lowest rows first
+
+-- how many words a table of n inputs has: one for each 64 rows, and one where there are fewer
+abbrev pub wordCount : ℕ → ℕ
+wordCount n = (rowsOf n + 63) / 64
+
+-- row r is bit r mod 64 of word r div 64; bits and words past the table's rows are left out of account
+abbrev pub wordRow : List ℕ → ℕ → Bool
+wordRow words r = bitIn (getD words (r / 64) 0) (r % 64)
+
+-- 103: fewer words than the table has
+abbrev pub fewWords : ℕ → List ℕ → Rule
+fewWords n words = rule 103 (ltb (length words) (wordCount n))
+
+-- the record of the table that words stand for: 2, 103, 12
+abbrev pub fromWords : ℕ → List ℕ → ℕ → Answered (List ℕ)
+fromWords n words room = checked (tooManyInputs n ∷ fewWords n words ∷ []) (tableRecord n (wordRow words) room)

@@ -1,0 +1,2 @@
+-- tables by their rows, from hex digits and from words
+pub mod Imports

@@ -1,0 +1,37 @@
+-- The calls that give the numbers of a gate or a witness, make a record of numbers, or make a table's fresh job (docs/FORMAT.md). No
+-- document has these calls. Each goes by what reading gives first, then `otherKind`, then its own numbers. Definitions only. Assumes nothing.
+use mathlib.Core.List.{List}
+use Prim.Native.Nat.{ℕ}
+use lib.IntN.{ℤ}
+use Rattle.types.specs.declared.gate.Gate.{Gate}
+use Rattle.cell.specs.Refusal.{Answered, answered, andThen}
+use Rattle.job.specs.declared.job.Job.{Job}
+use Rattle.job.specs.Machine.{fresh}
+use Rattle.writers.specs.Calls.{fitted}
+use Rattle.outcome.specs.Outcome.{outcomeWritten}
+use Rattle.arrays.specs.Arrays.{fittedGate, fromGate, fromWitness}
+use Rattle.requests.specs.Taken.{tableRead, gateRead, countsRead, jobRead}
+
+-- kind 2, the gate whose numbers are given: 12
+abbrev pub gateGiven : List ℕ → ℕ → Answered Gate
+gateGiven s room = andThen (gateRead s) (fittedGate room)
+
+-- kind 3, the count of each row: 12
+abbrev pub countsGiven : List ℕ → ℕ → Answered (List ℕ)
+countsGiven s room = andThen (countsRead s) (fitted room)
+
+-- kind 1 with the numbers of a gate, as kind 2: 104, 7, 12
+abbrev pub gateRecord : List ℕ → List ℤ → ℤ → ℕ → Answered (List ℕ)
+gateRecord s weights threshold room = andThen (tableRead s) (λ t. fromGate t weights threshold room)
+
+-- kind 1 with the counts of a witness, as kind 3: 104, 8, 12
+abbrev pub witnessRecord : List ℕ → List ℕ → ℕ → Answered (List ℕ)
+witnessRecord s counts room = andThen (tableRead s) (λ t. fromWitness t counts room)
+
+-- kind 1, what the fresh job has come to: it is open (kind 4), or has ended with the witness of a binate input (kind 3): 12
+abbrev pub freshRecord : List ℕ → ℕ → Answered (List ℕ)
+freshRecord s room = andThen (tableRead s) (λ t. outcomeWritten room (fresh t))
+
+-- kind 4, the corrections made so far
+abbrev pub corrections : List ℕ → Answered ℕ
+corrections s = andThen (jobRead s) (λ (j : Job). answered (j .state .k))
