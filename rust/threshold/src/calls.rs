@@ -1,29 +1,32 @@
 //! The library's functions on slices, as `include/threshold.h` describes them.
 //!
-//! A function with `out` writes its answer to the start of the buffer and gives the length. It changes no byte past that, and none at
+//! A function with `out` writes its answer to the start of the buffer and gives the length. It changes nothing past that, and nothing at
 //! all where it refuses. [`ROOM`](crate::ROOM) bytes are enough for every answer. A function with `made` sets it to the corrections made in
 //! the call, and keeps it where it refuses.
+//!
+//! # Errors
+//!
+//! A function on a record gives what reading it does, numbers 1 to 9; then [`Refusal::OtherKind`] for a record of a kind that it does not
+//! take; then its own, which it names.
+//!
+//! # Panics
+//!
+//! If what is linked gives a number that the library cannot give.
 
+use crate::declared as c;
 use crate::Refusal;
-
-mod c {
-    extern "C" {
-        pub fn threshold_decide(record: *const u8, length: usize, out: *mut u8, room: usize, made: *mut u32) -> i64;
-        pub fn threshold_carry_on(record: *const u8, length: usize, budget: u32, out: *mut u8, room: usize, made: *mut u32) -> i64;
-        pub fn threshold_check(record: *const u8, length: usize) -> i64;
-        pub fn threshold_kind(record: *const u8, length: usize) -> i64;
-        pub fn threshold_kinds(record: *const u8, length: usize, out: *mut u8, room: usize) -> i64;
-        pub fn threshold_chow(record: *const u8, length: usize, out: *mut u8, room: usize) -> i64;
-        pub fn threshold_value(record: *const u8, length: usize, row: u32) -> i64;
-    }
-}
 
 /// What a call says, 0 or above, or its refusal.
 fn answer(code: i64) -> Result<usize, Refusal> {
     usize::try_from(code).map_err(|_| {
-        let number = u8::try_from(-code).ok();
+        let number = u8::try_from(code.unsigned_abs()).ok();
         number.and_then(Refusal::from_number).unwrap_or_else(|| panic!("the library gave {code}, which is no refusal"))
     })
+}
+
+/// A call's answer as a smaller number.
+fn number<N: TryFrom<usize>>(code: i64) -> Result<N, Refusal> {
+    answer(code).map(|answer| N::try_from(answer).unwrap_or_else(|_| panic!("the library gave {answer}, which is past the range")))
 }
 
 /// A call's 1 or 0 as true or false.
@@ -35,40 +38,158 @@ fn truth(code: i64) -> Result<bool, Refusal> {
     })
 }
 
-// Safety, of every call below: a slice's pointer is not null and is valid for its length, that of a number is not null and valid, what
-// is shared is written by no one and what is mutable overlaps nothing else while they are lent, and the library asks nothing else.
+// Of every call below the library asks that a pointer with a length is valid for it and one without is valid, and that what it writes
+// overlaps nothing else that is lent. A slice and a reference see to both.
+
+/// Writes the table (kind 1) that hex digits stand for, the digit of the highest rows first: 2^n / 4 of them, one where n is below 2.
+///
+/// # Errors
+///
+/// [`Refusal::Inputs`], [`Refusal::Digits`], [`Refusal::Digit`], [`Refusal::Room`].
+pub fn from_hex(inputs: u32, digits: &[u8], out: &mut [u8]) -> Result<usize, Refusal> {
+    // SAFETY: slices are valid for their lengths, and `out` overlaps nothing.
+    answer(unsafe { c::threshold_from_hex(inputs, digits.as_ptr().cast(), digits.len(), out.as_mut_ptr(), out.len()) })
+}
+
+/// Writes the table (kind 1) that words of 64 rows stand for: row r is bit r mod 64 of word r div 64. What is past its rows does not count.
+///
+/// # Errors
+///
+/// [`Refusal::Inputs`], [`Refusal::Words`], [`Refusal::Room`].
+pub fn from_words(inputs: u32, words: &[u64], out: &mut [u8]) -> Result<usize, Refusal> {
+    // SAFETY: slices are valid for their lengths, and `out` overlaps nothing.
+    answer(unsafe { c::threshold_from_words(inputs, words.as_ptr(), words.len(), out.as_mut_ptr(), out.len()) })
+}
 
 /// Decides a table (kind 1) within 100,000 corrections: writes a record of kind 2, 3 or 4.
+///
+/// # Errors
+///
+/// Its own: [`Refusal::Room`].
 pub fn decide(record: &[u8], out: &mut [u8], made: &mut u32) -> Result<usize, Refusal> {
+    // SAFETY: slices are valid for their lengths, `made` is valid, and what is mutable overlaps nothing.
     answer(unsafe { c::threshold_decide(record.as_ptr(), record.len(), out.as_mut_ptr(), out.len(), made) })
 }
 
 /// Carries an open job (kind 4) on by at most `budget` corrections: writes a record of kind 2, 3 or 4.
+///
+/// # Errors
+///
+/// Its own: [`Refusal::Budget`], [`Refusal::Cap`], [`Refusal::Room`].
 pub fn carry_on(record: &[u8], budget: u32, out: &mut [u8], made: &mut u32) -> Result<usize, Refusal> {
+    // SAFETY: slices are valid for their lengths, `made` is valid, and what is mutable overlaps nothing.
     answer(unsafe { c::threshold_carry_on(record.as_ptr(), record.len(), budget, out.as_mut_ptr(), out.len(), made) })
 }
 
+/// Writes the fresh job (kind 4) of a table (kind 1), or, if an input is binate, the table with its witness (kind 3).
+///
+/// # Errors
+///
+/// Its own: [`Refusal::Room`].
+pub fn fresh(record: &[u8], out: &mut [u8]) -> Result<usize, Refusal> {
+    // SAFETY: slices are valid for their lengths, and `out` overlaps nothing.
+    answer(unsafe { c::threshold_fresh(record.as_ptr(), record.len(), out.as_mut_ptr(), out.len()) })
+}
+
+/// The corrections made so far, K, of an open job (kind 4).
+///
+/// # Errors
+///
+/// None of its own.
+pub fn corrections(record: &[u8]) -> Result<u32, Refusal> {
+    // SAFETY: a slice is valid for its length.
+    number(unsafe { c::threshold_corrections(record.as_ptr(), record.len()) })
+}
+
 /// Whether the gate (kind 2) realises its table, or the witness (kind 3) balances.
+///
+/// # Errors
+///
+/// None of its own.
 pub fn check(record: &[u8]) -> Result<bool, Refusal> {
+    // SAFETY: a slice is valid for its length.
     truth(unsafe { c::threshold_check(record.as_ptr(), record.len()) })
 }
 
+/// Writes the weights of a table's gate (kind 2), from input 1 on, sets `threshold` to T, and gives the number of weights; room for 8 is
+/// enough.
+///
+/// # Errors
+///
+/// Its own: [`Refusal::Room`].
+pub fn gate(record: &[u8], weights: &mut [i32], threshold: &mut i32) -> Result<usize, Refusal> {
+    // SAFETY: slices are valid for their lengths, `threshold` is valid, and what is mutable overlaps nothing.
+    answer(unsafe { c::threshold_gate(record.as_ptr(), record.len(), weights.as_mut_ptr(), weights.len(), threshold) })
+}
+
+/// Writes the count of each row of a table's witness (kind 3), from row 0 on, and gives the number of rows; room for 256 is enough.
+///
+/// # Errors
+///
+/// Its own: [`Refusal::Room`].
+pub fn witness(record: &[u8], counts: &mut [u32]) -> Result<usize, Refusal> {
+    // SAFETY: slices are valid for their lengths, and `counts` overlaps nothing.
+    answer(unsafe { c::threshold_witness(record.as_ptr(), record.len(), counts.as_mut_ptr(), counts.len()) })
+}
+
+/// Writes a table (kind 1) with a gate for it from anyone (kind 2): a weight for each input, and T.
+///
+/// # Errors
+///
+/// Its own: [`Refusal::Numbers`], [`Refusal::Gate`], [`Refusal::Room`].
+pub fn from_gate(record: &[u8], weights: &[i32], threshold: i32, out: &mut [u8]) -> Result<usize, Refusal> {
+    let (length, count, room) = (record.len(), weights.len(), out.len());
+    // SAFETY: slices are valid for their lengths, and `out` overlaps nothing.
+    answer(unsafe { c::threshold_from_gate(record.as_ptr(), length, weights.as_ptr(), count, threshold, out.as_mut_ptr(), room) })
+}
+
+/// Writes a table (kind 1) with a witness against it from anyone (kind 3): a count for each row.
+///
+/// # Errors
+///
+/// Its own: [`Refusal::Numbers`], [`Refusal::RowList`], [`Refusal::Room`].
+pub fn from_witness(record: &[u8], counts: &[u32], out: &mut [u8]) -> Result<usize, Refusal> {
+    let (length, count, room) = (record.len(), counts.len(), out.len());
+    // SAFETY: slices are valid for their lengths, and `out` overlaps nothing.
+    answer(unsafe { c::threshold_from_witness(record.as_ptr(), length, counts.as_ptr(), count, out.as_mut_ptr(), room) })
+}
+
 /// The kind, 1 to 4, of a record that is whole and right.
+///
+/// # Errors
+///
+/// What reading gives.
 pub fn kind(record: &[u8]) -> Result<u8, Refusal> {
-    answer(unsafe { c::threshold_kind(record.as_ptr(), record.len()) }).map(|kind| u8::try_from(kind).expect("a kind byte"))
+    // SAFETY: a slice is valid for its length.
+    number(unsafe { c::threshold_kind(record.as_ptr(), record.len()) })
 }
 
 /// Writes the kind of each of eight inputs of a table (kind 1), a byte each.
+///
+/// # Errors
+///
+/// Its own: [`Refusal::Room`].
 pub fn kinds(record: &[u8], out: &mut [u8]) -> Result<usize, Refusal> {
+    // SAFETY: slices are valid for their lengths, and `out` overlaps nothing.
     answer(unsafe { c::threshold_kinds(record.as_ptr(), record.len(), out.as_mut_ptr(), out.len()) })
 }
 
 /// Writes Chow's parameter of each of eight inputs of a table (kind 1), two bytes each.
+///
+/// # Errors
+///
+/// Its own: [`Refusal::Room`].
 pub fn chow(record: &[u8], out: &mut [u8]) -> Result<usize, Refusal> {
+    // SAFETY: slices are valid for their lengths, and `out` overlaps nothing.
     answer(unsafe { c::threshold_chow(record.as_ptr(), record.len(), out.as_mut_ptr(), out.len()) })
 }
 
 /// The value of a table (kind 1) or of a table's gate (kind 2) on a row.
+///
+/// # Errors
+///
+/// Its own: [`Refusal::Row`].
 pub fn value(record: &[u8], row: u32) -> Result<bool, Refusal> {
+    // SAFETY: a slice is valid for its length.
     truth(unsafe { c::threshold_value(record.as_ptr(), record.len(), row) })
 }

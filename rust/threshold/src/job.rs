@@ -1,9 +1,12 @@
 //! Verdicts with the corrections made, and the job of a table that is still open.
 
-use crate::record::{over_record, with_table, Record};
+use crate::record::{answered, over_record, with_table, Record};
 use crate::{calls, Gate, Refusal, Table, Witness};
+use std::fmt;
 
 /// What is known of a table.
+///
+/// It is shown as `gate 2 x1 + 3 x2 >= 4`, `no gate 3 12 = 6 9` or `open at K 100000`.
 #[derive(Clone, Debug, PartialEq, Eq, Hash)]
 pub enum Verdict {
     /// One gate carries the table.
@@ -24,30 +27,36 @@ pub struct Outcome {
 }
 
 /// The open job of a table, as it is stored between calls.
-#[derive(Clone, Debug, PartialEq, Eq, Hash)]
+///
+/// It is shown by the corrections made so far: `open at K 100000`.
+#[derive(Clone, PartialEq, Eq, Hash)]
 pub struct SavedJob(Record);
 
 over_record!(SavedJob, 4);
 with_table!(SavedJob);
 
 impl SavedJob {
-    /// The fresh job of a table, to be carried on by budgets of one's own. A table with a binate input has none, since its job has ended
-    /// before a correction: [`Table::decide`] gives the witness.
+    /// The fresh job of a table, if no input is binate; [`Table::fresh`] gives the witness too.
     pub fn fresh(table: &Table) -> Option<SavedJob> {
-        let mut record = table.0.head(4);
-        // K, v and s (a number for each input, and b), and an empty row list: all 0.
-        record.resize(record.len() + 1 + 2 * (table.inputs() + 1) + 1, 0);
-        SavedJob::from_record(&record).ok()
+        match table.fresh() {
+            Verdict::Open(job) => Some(job),
+            _ => None,
+        }
     }
 
     /// Carries the job on by at most `budget` corrections. The job itself stays as it is, so a refused call loses nothing.
+    ///
+    /// # Errors
+    ///
+    /// [`Refusal::Budget`] for a budget of 0 or above [`CALL_BUDGET`](crate::CALL_BUDGET), then [`Refusal::Cap`] if the job could pass
+    /// [`CAP`](crate::CAP) corrections with it.
     pub fn carry_on(&self, budget: u32) -> Result<Outcome, Refusal> {
         Outcome::of(|out, made| calls::carry_on(self.record(), budget, out, made))
     }
 
     /// The corrections made so far, K.
     pub fn corrections(&self) -> u32 {
-        self.0.fields().number()
+        answered(calls::corrections(self.record()))
     }
 }
 
@@ -62,11 +71,27 @@ impl Outcome {
 
 impl Verdict {
     /// The verdict that the library has written: kind 2, 3 or 4.
-    fn of(record: Record) -> Verdict {
+    pub(crate) fn of(record: Record) -> Verdict {
         match record.kind() {
             2 => Verdict::Gate(Gate(record)),
             3 => Verdict::Witness(Witness(record)),
             _ => Verdict::Open(SavedJob(record)),
         }
+    }
+}
+
+impl fmt::Display for Verdict {
+    fn fmt(&self, f: &mut fmt::Formatter) -> fmt::Result {
+        match self {
+            Verdict::Gate(gate) => write!(f, "gate {gate}"),
+            Verdict::Witness(witness) => write!(f, "no gate {witness}"),
+            Verdict::Open(job) => write!(f, "{job}"),
+        }
+    }
+}
+
+impl fmt::Display for SavedJob {
+    fn fmt(&self, f: &mut fmt::Formatter) -> fmt::Result {
+        write!(f, "open at K {}", self.corrections())
     }
 }

@@ -7,21 +7,29 @@
 //! ```
 //! use threshold::{Table, Verdict};
 //!
-//! let both = Table::from_fn(2, |row| row == 3)?;
+//! let both: Table = "8".parse()?; // hex digits, as ABC and kitty write them: two inputs, true in row 3
 //! let outcome = both.decide();
+//! println!("{both}: {}", outcome.verdict); // 8: gate 2 x1 + 3 x2 >= 4
 //! let Verdict::Gate(gate) = outcome.verdict else { panic!("no gate") };
-//! assert_eq!((gate.weights(), gate.threshold()), (vec![2, 3], 4));
+//! assert_eq!(gate.weights(), [2, 3]);
+//! assert_eq!(gate.threshold(), 4);
 //! assert!(gate.realises());
 //! assert_eq!(outcome.made, 18);
 //! # Ok::<(), threshold::Refusal>(())
 //! ```
 //!
-//! Each value here is a record (document 01, "Records") that the library has read or written, so it can be stored as [`Table::record`] and its
-//! like give it. What is proved is the library; this crate adds the declarations and the numbers of a record as Rust values.
-//! [`calls`] has the library's functions on slices.
+//! Each value here is a record (docs/FORMAT.md) that the library has read or written, so it can be stored as [`Table::record`] and its
+//! like give it. What is proved is the library; this crate adds its declarations, and the text that values are shown as. [`calls`] has
+//! the library's functions on slices.
+//!
+//! # Panics
+//!
+//! No method panics as long as the library linked is the one that this crate declares: each asks only what its record is right for.
+
+#![warn(missing_docs, clippy::missing_errors_doc, clippy::missing_panics_doc, clippy::undocumented_unsafe_blocks)]
 
 pub mod calls;
-mod fields;
+mod declared;
 mod gate;
 mod job;
 mod record;
@@ -32,11 +40,11 @@ mod witness;
 #[cfg(test)]
 mod tests;
 
-pub use gate::Gate;
+pub use gate::{Gate, Weights};
 pub use job::{Outcome, SavedJob, Verdict};
 pub use refusal::Refusal;
 pub use table::{InputKind, Table};
-pub use witness::Witness;
+pub use witness::{Rows, Witness};
 
 /// The most corrections of one call.
 pub const CALL_BUDGET: u32 = 100_000;

@@ -1,17 +1,16 @@
 //! A record that the library has read or written, and what the types over one share.
 
-use crate::fields::Fields;
 use crate::{calls, Refusal, ROOM};
 
 /// The bytes of a record that is whole and right.
-#[derive(Clone, Debug, PartialEq, Eq, Hash)]
-pub struct Record(Vec<u8>);
+#[derive(Clone, PartialEq, Eq, Hash)]
+pub struct Record(Box<[u8]>);
 
 impl Record {
     /// The bytes as a record of this kind.
     pub fn read(bytes: &[u8], kind: u8) -> Result<Record, Refusal> {
         if calls::kind(bytes)? == kind {
-            Ok(Record(bytes.to_vec()))
+            Ok(Record(bytes.into()))
         } else {
             Err(Refusal::OtherKind)
         }
@@ -21,7 +20,7 @@ impl Record {
     pub fn written_by(call: impl FnOnce(&mut [u8]) -> Result<usize, Refusal>) -> Result<Record, Refusal> {
         let mut out = [0; ROOM];
         let length = call(&mut out)?;
-        Ok(Record(out[..length].to_vec()))
+        Ok(Record(out[..length].into()))
     }
 
     pub fn bytes(&self) -> &[u8] {
@@ -32,27 +31,23 @@ impl Record {
         self.0[0]
     }
 
-    pub fn inputs(&self) -> usize {
-        usize::from(self.0[1])
-    }
-
-    /// The table's bytes, and the fields after them.
-    fn parts(&self) -> (&[u8], &[u8]) {
-        self.0[2..].split_at((1usize << self.inputs()).div_ceil(8))
+    pub fn inputs(&self) -> u32 {
+        u32::from(self.0[1])
     }
 
     pub fn table_bytes(&self) -> &[u8] {
-        self.parts().0
+        &self.0[2..][..(1usize << self.inputs()).div_ceil(8)]
     }
 
-    pub fn fields(&self) -> Fields<'_> {
-        Fields(self.parts().1)
+    /// The table's value on one of its rows.
+    pub fn table_value(&self, row: u32) -> bool {
+        self.table_bytes()[row as usize / 8] >> (row % 8) & 1 == 1
     }
+}
 
-    /// The record's table with another kind byte, for the fields of that kind to follow.
-    pub fn head(&self, kind: u8) -> Vec<u8> {
-        [&[kind, self.0[1]], self.table_bytes()].concat()
-    }
+/// What the library says of a record of a kind that the call takes, where the call has no refusal of its own left.
+pub fn answered<T>(said: Result<T, Refusal>) -> T {
+    said.unwrap_or_else(|refusal| panic!("a right record was {refusal}"))
 }
 
 /// What every type over a record of one kind has.
@@ -60,6 +55,10 @@ macro_rules! over_record {
     ($type:ident, $kind:literal) => {
         impl $type {
             /// Reads a record of this kind: any bytes may be given.
+            ///
+            /// # Errors
+            ///
+            /// What reading gives, numbers 1 to 9, and [`Refusal::OtherKind`] for a record of another kind.
             pub fn from_record(bytes: &[u8]) -> Result<$type, Refusal> {
                 $crate::record::Record::read(bytes, $kind).map($type)
             }
@@ -70,7 +69,7 @@ macro_rules! over_record {
             }
 
             /// The number of inputs, 0 to 8.
-            pub fn inputs(&self) -> usize {
+            pub fn inputs(&self) -> u32 {
                 self.0.inputs()
             }
         }
@@ -78,13 +77,19 @@ macro_rules! over_record {
 }
 pub(crate) use over_record;
 
-/// What every type over a table and more has.
+/// What every type over a table and more has. Debug is the table and what Display says.
 macro_rules! with_table {
     ($type:ident) => {
         impl $type {
             /// The table that this is about.
             pub fn table(&self) -> $crate::Table {
-                $crate::Table::from_record(&self.0.head(1)).expect("the table of a right record is right")
+                $crate::record::answered($crate::Table::new(self.inputs(), self.0.table_bytes()))
+            }
+        }
+
+        impl std::fmt::Debug for $type {
+            fn fmt(&self, f: &mut std::fmt::Formatter) -> std::fmt::Result {
+                write!(f, "{}({}: {self})", stringify!($type), self.table().described())
             }
         }
     };

@@ -3,13 +3,15 @@
 use std::error::Error;
 use std::fmt;
 
-/// Why a call was refused: a number of document 01, "Who causes which number", or 100, which is the C interface's own.
+/// Why a call was refused, by the numbers of `include/threshold.h`: 1 to 14 are those of records and calls (docs/FORMAT.md), those from 100
+/// on are the interface's own.
 #[derive(Clone, Copy, Debug, PartialEq, Eq, Hash)]
 #[repr(u8)]
+#[non_exhaustive]
 pub enum Refusal {
     /// The bytes end early.
     EndsEarly = 1,
-    /// There are more than eight inputs, or a gate has not the table's number of weights.
+    /// There are more than eight inputs.
     Inputs = 2,
     /// A spare bit of the table is set.
     SpareBit = 3,
@@ -21,7 +23,8 @@ pub enum Refusal {
     BytesLeft = 6,
     /// A weight or the threshold is beyond 1,000,000 either way.
     Gate = 7,
-    /// The row list is empty, too long or not rising, or has a row past the table or a count outside 1 to 1,000,000.
+    /// The row list is empty, too long or not rising, or has a row past the table or a count outside 1 to 1,000,000. Counts by row may
+    /// be 0, but not all of them.
     RowList = 8,
     /// The job is not sound.
     Unsound = 9,
@@ -29,18 +32,29 @@ pub enum Refusal {
     Budget = 10,
     /// The job's corrections with the budget are above [`CAP`](crate::CAP).
     Cap = 11,
-    /// The answer is longer than the buffer.
+    /// The answer is longer than the room.
     Room = 12,
     /// The row is at or above 2^n.
     Row = 14,
     /// The record is whole and right, of a kind that the call does not take.
     OtherKind = 100,
+    /// There are not as many hex digits as a table of n inputs has.
+    Digits = 101,
+    /// A character is not a hex digit.
+    Digit = 102,
+    /// There are fewer words than a table of n inputs has.
+    Words = 103,
+    /// There is not a weight for each input of the table, or not a count for each of its rows.
+    Numbers = 104,
 }
 
 impl Refusal {
-    const ALL: [Refusal; 14] = {
+    const ALL: [Refusal; 18] = {
         use Refusal::*;
-        [EndsEarly, Inputs, SpareBit, Number, Kind, BytesLeft, Gate, RowList, Unsound, Budget, Cap, Room, Row, OtherKind]
+        [
+            EndsEarly, Inputs, SpareBit, Number, Kind, BytesLeft, Gate, RowList, Unsound, Budget, Cap, Room, Row, OtherKind, Digits, Digit,
+            Words, Numbers,
+        ]
     };
 
     /// The number of the refusal.
@@ -52,27 +66,35 @@ impl Refusal {
     pub fn from_number(number: u8) -> Option<Refusal> {
         Refusal::ALL.into_iter().find(|refusal| refusal.number() == number)
     }
-}
 
-impl fmt::Display for Refusal {
-    fn fmt(&self, f: &mut fmt::Formatter) -> fmt::Result {
-        let reason = match self {
+    /// The refusal in words, as `threshold_refusal_text` has it.
+    pub fn text(self) -> &'static str {
+        match self {
             Refusal::EndsEarly => "the bytes end early",
-            Refusal::Inputs => "more than eight inputs, or a gate's inputs are not the table's",
+            Refusal::Inputs => "more than eight inputs",
             Refusal::SpareBit => "a spare bit of the table is set",
             Refusal::Number => "a number is not in shortest form, or has over three groups",
             Refusal::Kind => "the kind byte is not 1 to 4",
             Refusal::BytesLeft => "bytes are left after the record",
-            Refusal::Gate => "a weight or the threshold is out of range",
-            Refusal::RowList => "the row list breaks its rules",
+            Refusal::Gate => "a weight or the threshold is beyond 1,000,000 either way",
+            Refusal::RowList => "the counts are all 0, or one is above 1,000,000, or the row list breaks its rules",
             Refusal::Unsound => "the job is not sound",
             Refusal::Budget => "the budget is not within 1 to 100,000",
             Refusal::Cap => "the budget passes the cap of 1,000,000 corrections",
-            Refusal::Room => "the buffer is too short",
+            Refusal::Room => "the answer is longer than the room",
             Refusal::Row => "the row is past the table",
             Refusal::OtherKind => "a kind of record that the call does not take",
-        };
-        write!(f, "refused by {}: {reason}", self.number())
+            Refusal::Digits => "not as many hex digits as the table has",
+            Refusal::Digit => "a character is not a hex digit",
+            Refusal::Words => "fewer words than the table has",
+            Refusal::Numbers => "not a weight for each input, or not a count for each row",
+        }
+    }
+}
+
+impl fmt::Display for Refusal {
+    fn fmt(&self, f: &mut fmt::Formatter) -> fmt::Result {
+        write!(f, "refused by {}: {}", self.number(), self.text())
     }
 }
 

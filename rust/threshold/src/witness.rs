@@ -1,36 +1,103 @@
 //! Witnesses.
 
-use crate::fields::put_number;
-use crate::record::{over_record, with_table, Record};
+use crate::record::{answered, over_record, with_table, Record};
 use crate::{calls, Refusal, Table};
+use std::{fmt, iter, ops};
 
 /// A witness against a table, from anyone: a count for some of its rows. If it balances, the table has no gate.
-#[derive(Clone, Debug, PartialEq, Eq, Hash)]
+///
+/// It is shown as its true rows and its false rows, `3 12 = 5 10`, a row with a count above 1 as `2*3`.
+#[derive(Clone, PartialEq, Eq, Hash)]
 pub struct Witness(pub(crate) Record);
 
 over_record!(Witness, 3);
 with_table!(Witness);
 
 impl Witness {
-    /// A witness that is proposed against a table: pairs of a row and its count, rows rising.
+    /// A witness that is proposed against a table: pairs of a row and its count, in any order.
+    ///
+    /// ```
+    /// use threshold::{Table, Witness};
+    ///
+    /// let pairs: Table = "f888".parse()?; // x1 x2 + x3 x4
+    /// assert!(Witness::new(&pairs, &[(3, 1), (12, 1), (5, 1), (10, 1)])?.balances());
+    /// # Ok::<(), threshold::Refusal>(())
+    /// ```
+    ///
+    /// # Errors
+    ///
+    /// [`Refusal::RowList`] if there is no pair, a row is past the table or named twice, or a count is not within 1 to 1,000,000.
     pub fn new(table: &Table, rows: &[(u32, u32)]) -> Result<Witness, Refusal> {
-        let mut record = table.0.head(3);
-        put_number(&mut record, u32::try_from(rows.len()).unwrap_or(u32::MAX));
+        let mut all = [0; 256];
+        let counts = &mut all[..1 << table.inputs()];
         for &(row, count) in rows {
-            put_number(&mut record, row);
-            put_number(&mut record, count);
+            match counts.get_mut(row as usize) {
+                Some(place) if *place == 0 && count > 0 => *place = count,
+                _ => return Err(Refusal::RowList),
+            }
         }
-        Witness::from_record(&record)
+        Record::written_by(|out| calls::from_witness(table.record(), counts, out)).map(Witness)
     }
 
     /// The rows with a count, rising, each with its count.
-    pub fn rows(&self) -> Vec<(u32, u32)> {
-        let mut fields = self.0.fields();
-        (0..fields.number()).map(|_| (fields.number(), fields.number())).collect()
+    pub fn rows(&self) -> Rows {
+        let mut counts = [0; 256];
+        let rows = answered(calls::witness(self.record(), &mut counts));
+        Rows { counts, left: 0..rows }
     }
 
     /// Whether true rows and false rows have the same total and, for each input, so have those in which it is true.
     pub fn balances(&self) -> bool {
-        calls::check(self.record()).expect("a witness is checked")
+        answered(calls::check(self.record()))
+    }
+}
+
+impl fmt::Display for Witness {
+    fn fmt(&self, f: &mut fmt::Formatter) -> fmt::Result {
+        let side = |value| self.rows().filter(move |&(row, _)| self.0.table_value(row) == value).map(Term);
+        side(true).try_for_each(|term| write!(f, "{term} "))?;
+        f.write_str("=")?;
+        side(false).try_for_each(|term| write!(f, " {term}"))
+    }
+}
+
+/// A row and its count, as one side of a witness has it.
+struct Term((u32, u32));
+
+impl fmt::Display for Term {
+    fn fmt(&self, f: &mut fmt::Formatter) -> fmt::Result {
+        match self.0 {
+            (row, 1) => write!(f, "{row}"),
+            (row, count) => write!(f, "{count}*{row}"),
+        }
+    }
+}
+
+/// The rows of a witness that have a count, rising: pairs of a row and its count.
+#[derive(Clone)]
+pub struct Rows {
+    /// By row.
+    counts: [u32; 256],
+    left: ops::Range<usize>,
+}
+
+impl Iterator for Rows {
+    type Item = (u32, u32);
+
+    fn next(&mut self) -> Option<(u32, u32)> {
+        let row = self.left.find(|&row| self.counts[row] > 0)?;
+        Some((row as u32, self.counts[row]))
+    }
+
+    fn size_hint(&self) -> (usize, Option<usize>) {
+        (0, Some(self.left.len()))
+    }
+}
+
+impl iter::FusedIterator for Rows {}
+
+impl fmt::Debug for Rows {
+    fn fmt(&self, f: &mut fmt::Formatter) -> fmt::Result {
+        f.debug_list().entries(self.clone()).finish()
     }
 }
