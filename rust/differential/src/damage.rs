@@ -1,7 +1,10 @@
 //! Damaged records: each cut at each length, with each byte and each number changed, and with faults added to faults, so that the order
 //! of the refusals shows. Every call is made on each.
 
-use crate::compare::{Call, Comparison, Difference};
+use crate::call::Call;
+use crate::compare::Comparison;
+use crate::difference::Difference;
+use crate::numbers::{about, counts, weights};
 use crate::random::Random;
 use crate::records::{near_cap, put_together, table_of, taken_apart, varied};
 use crate::tables::{table, Family};
@@ -36,12 +39,32 @@ pub fn compare_changed_jobs(comparison: &mut Comparison) -> Result<u64, Differen
     Ok(CHANGED_JOBS)
 }
 
-/// Compares the seven calls on the bytes, with arguments and rooms of any kind.
+/// Compares the calls on records on the bytes, with arguments and rooms of any kind.
 fn all_calls(comparison: &mut Comparison, record: &[u8]) -> Result<(), Difference> {
     let random = &mut comparison.random;
     let budget = random.choose(&[0, 1, 1, 2, 7, 20, 100_000, 100_001, u32::MAX]);
     let row = random.choose(&[0, 1, 2, 3, 7, 8, 100, 255, 256, u32::MAX]);
-    for call in [Call::Decide, Call::CarryOn(budget), Call::Check, Call::Kind, Call::Kinds, Call::Chow, Call::Value(row)] {
+    for call in [Call::Decide, Call::CarryOn(budget), Call::Fresh, Call::Kinds, Call::Chow] {
+        let room = comparison.random.choose(&[0, 7, 8, 15, 16, 40, 100, ROOM]);
+        comparison.compare(call, record, room)?;
+    }
+    for call in [Call::Corrections, Call::Check, Call::Kind, Call::Value(row)] {
+        comparison.compare(call, record, 0)?;
+    }
+    all_numbers(comparison, record)
+}
+
+/// Compares the calls to numbers and from numbers on the bytes, with about as many as the second byte's table has.
+fn all_numbers(comparison: &mut Comparison, record: &[u8]) -> Result<(), Difference> {
+    let random = &mut comparison.random;
+    let n = record.get(1).map_or(0, |&inputs| usize::from(inputs.min(8)));
+    let [inputs, rows] = [n, 1 << n].map(|right| about(random, right));
+    let (weights, counts) = (weights(random, inputs), counts(random, rows));
+    let threshold = random.choose(&[0, -1, 1_000_000, -1_000_001]);
+    for (call, room) in [(Call::Gate, inputs), (Call::Witness, rows)] {
+        comparison.compare(call, record, room)?;
+    }
+    for call in [Call::FromGate(&weights, threshold), Call::FromWitness(&counts)] {
         let room = comparison.random.choose(&[0, 7, 8, 15, 16, 40, 100, ROOM]);
         comparison.compare(call, record, room)?;
     }

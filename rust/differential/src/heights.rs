@@ -1,6 +1,6 @@
 //! The page of heights: what `heights_main` has stored, which is the table of docs/HEIGHTS.md.
 
-use crate::compare::Difference;
+use crate::difference::Difference;
 use reference::table::true_inputs;
 
 /// The stored run: two lines of head, then lines with the number of a row and the heights of sixteen rows from it on.

@@ -1,7 +1,9 @@
 //! Lists of calls on one job. The library gets the record that its last accepted call wrote; beside it the reference's machine runs
 //! unbroken, fed the accepted budgets alone, and says what each call must do.
 
-use crate::compare::{Call, Comparison, Difference, Outcome};
+use crate::call::Call;
+use crate::compare::Comparison;
+use crate::difference::Difference;
 use crate::random::Random;
 use crate::records::{before_looping_at_a_power, near_cap, table_of, untouched};
 use crate::tables::{samples, table, Family};
@@ -14,6 +16,19 @@ use threshold::ROOM;
 /// The lists from random jobs, and the most calls of one.
 const LISTS: u64 = 22_000;
 const CALLS: usize = 40;
+/// The calls between carry-ons.
+const OTHERS: [Call; 10] = [
+    Call::Decide,
+    Call::Fresh,
+    Call::Corrections,
+    Call::Check,
+    Call::Gate,
+    Call::Witness,
+    Call::Kind,
+    Call::Kinds,
+    Call::Chow,
+    Call::Value(0),
+];
 
 /// Compares the lists, and gives their number.
 pub fn compare_lists(comparison: &mut Comparison) -> Result<u64, Difference> {
@@ -49,7 +64,7 @@ fn list(comparison: &mut Comparison, mut machine: Job, most: usize) -> Result<()
     for _ in 0..CALLS {
         let random = &mut comparison.random;
         if random.one_in(4) {
-            let call = random.choose(&[Call::Decide, Call::Check, Call::Kind, Call::Kinds, Call::Chow, Call::Value(0)]);
+            let call = random.choose(&OTHERS);
             let room = random.below(200);
             comparison.compare(call, &record, room)?;
         } else {
@@ -83,10 +98,7 @@ fn carry_on(comparison: &mut Comparison, machine: &mut Job, record: &mut Vec<u8>
     let needed = answer.as_ref().map_or(0, |handed| handed.bytes.len());
     let any = comparison.random.below(ROOM);
     let room = comparison.random.choose(&[any, needed.saturating_sub(1), needed, needed + 1, ROOM]);
-    let answer = answer.and_then(|handed| if handed.bytes.len() <= room { Ok(handed) } else { Err(Refusal::BufferTooShort) });
-    let lent = comparison.lent(room);
-    let expected = Outcome::handing(answer, &lent);
-    let outcome = comparison.compare_with(Call::CarryOn(budget), record, lent, expected)?;
+    let outcome = comparison.compare_handing(Call::CarryOn(budget), record, answer, room)?;
     if let Some(written) = outcome.written() {
         *record = written.to_vec();
         *machine = next;

@@ -1,12 +1,18 @@
 //! Runs every comparison from one seed and prints how much was compared. Ends at the first difference, which it describes.
 
-use differential::compare::{Comparison, Difference};
+use differential::compare::Comparison;
+use differential::difference::Difference;
+use differential::random::Random;
 use differential::{
     damage::{compare_changed_jobs, compare_damaged},
+    digits::compare_digits,
+    gates::compare_gates,
     heights::compare_heights,
     lists::compare_lists,
     reports::compare_reports,
     verdicts::compare_verdicts,
+    witnesses::compare_witnesses,
+    words::compare_words,
 };
 use std::process::ExitCode;
 use std::time::Instant;
@@ -23,6 +29,23 @@ fn main() -> ExitCode {
 
 fn compare_all(comparison: &mut Comparison) -> Result<(), Difference> {
     let start = Instant::now();
+    compare_calls(comparison)?;
+    let tally = &comparison.tally;
+    print!("{} calls in all; by name, and refused by number:\n{tally}", tally.calls());
+    assert!(tally.refusals().into_iter().eq((1..=12).chain([14]).chain(100..=104)), "a refusal that was never compared");
+    tally.assert_as_named();
+    compare_texts(&mut comparison.random)?;
+    println!("no difference, {} seconds", start.elapsed().as_secs());
+    Ok(())
+}
+
+/// Compares the calls.
+fn compare_calls(comparison: &mut Comparison) -> Result<(), Difference> {
+    compare_digits(comparison)?;
+    compare_words(comparison)?;
+    compare_gates(comparison)?;
+    compare_witnesses(comparison)?;
+    println!("{} calls on digits, words, weights and counts", comparison.tally.calls());
     let damaged = compare_damaged(comparison)?;
     println!("{damaged} damaged records");
     let jobs = compare_changed_jobs(comparison)?;
@@ -31,12 +54,12 @@ fn compare_all(comparison: &mut Comparison) -> Result<(), Difference> {
     println!("{lists} lists of calls");
     let verdicts = compare_verdicts(comparison)?;
     println!("{verdicts} verdicts");
-    println!("{} calls in all; refused by number:", comparison.calls);
-    for (number, times) in &comparison.refused {
-        println!("{number:4} {times:9}");
-    }
-    assert!(comparison.refused.keys().copied().eq((1..=12).chain([14, 100])), "a refusal that was never compared");
-    let reports = compare_reports(&mut comparison.random)?;
+    Ok(())
+}
+
+/// Compares the reports and the page of heights.
+fn compare_texts(random: &mut Random) -> Result<(), Difference> {
+    let reports = compare_reports(random)?;
     println!("{} stored reports and {} of the program", reports.stored, reports.written);
     let [even, odd] = reports.on_half;
     println!("means on an exact half: {even} over an even tenth, {odd} over an odd one");
@@ -44,6 +67,5 @@ fn compare_all(comparison: &mut Comparison) -> Result<(), Difference> {
     let heights = compare_heights()?;
     println!("{heights} rows of the page of heights");
     assert_eq!(heights, 256, "rows of the page that were never compared");
-    println!("no difference, {} seconds", start.elapsed().as_secs());
     Ok(())
 }

@@ -17,6 +17,12 @@ pub fn table_of(record: &[u8]) -> Table {
     }
 }
 
+/// The kind 1 record of the table of a record that is whole and right.
+pub fn table_record(record: &[u8]) -> Vec<u8> {
+    let (head, _) = taken_apart(record);
+    [&[1], &head[1..]].concat()
+}
+
 /// A job with all numbers 0 in stage open, binate table or not.
 pub fn untouched(table: Table) -> Job {
     let (zero, counts) = (Vector::zero(table.n), vec![0; table.values.len()]);

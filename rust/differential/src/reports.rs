@@ -1,6 +1,6 @@
 //! Reports: those that `reports_main` has stored, and those that the program `report` writes of random inputs.
 
-use crate::compare::Difference;
+use crate::difference::Difference;
 use crate::random::Random;
 use crate::tables::{table, Family};
 use reference::report::{report, LONGEST};

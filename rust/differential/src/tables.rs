@@ -28,6 +28,15 @@ pub fn every_table(n: usize) -> impl Iterator<Item = Vec<u8>> {
     (0..1u64 << (1 << n)).map(move |bits| record(n, |row| bits >> row & 1 == 1))
 }
 
+/// Any number of inputs: mostly one that a table has, or one just above, or one whose lowest bits alone a table has.
+pub fn any_inputs(random: &mut Random) -> u32 {
+    let small = random.below(11) as u32;
+    match random.below(8) {
+        0 => random.choose(&[9, 10, 16, 31, 32, 33, 64, 255, 256, 258, 264, 65_536, 65_540, 1 << 31, (1 << 31) + 2, u32::MAX]),
+        _ => small,
+    }
+}
+
 /// The papers' functions and the marked cases, from the repository's sample for the report.
 pub fn samples() -> Vec<Vec<u8>> {
     let mut rest = &include_bytes!("../../../samples/papers.bin")[..];

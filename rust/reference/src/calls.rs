@@ -1,10 +1,13 @@
-//! The seven calls of the C interface on records. Each refuses by what reading gives, then by 100 for a kind that it does not
-//! take, then by its own numbers, rising. A call that writes is given the room of the lent buffer and gives the bytes written.
+//! The calls of the C interface. One on a record refuses by what reading gives, then by 100 for a kind that it does not take, then by its
+//! own numbers in the header's order. A call that writes is given the room of what is lent and gives the bytes or numbers written.
 
+use crate::gate::{self, Gate};
 use crate::job::Job;
+use crate::notation;
 use crate::record::Record;
 use crate::refusal::{demand, Refusal};
 use crate::table::{Kind, Table};
+use crate::witness::{self, Witness};
 
 /// What a job is handed back as: the record of what it shows, and the corrections made in the call.
 #[derive(Clone, Debug, PartialEq, Eq)]
@@ -20,9 +23,19 @@ fn table_of(record: &[u8]) -> Result<Table, Refusal> {
     }
 }
 
-fn fitting(bytes: Vec<u8>, room: usize) -> Result<Vec<u8>, Refusal> {
-    demand(bytes.len() <= room, Refusal::BufferTooShort)?;
-    Ok(bytes)
+fn fitting<T>(answer: Vec<T>, room: usize) -> Result<Vec<T>, Refusal> {
+    demand(answer.len() <= room, Refusal::BufferTooShort)?;
+    Ok(answer)
+}
+
+/// The record of the table that hex digits stand for.
+pub fn from_hex(inputs: u32, digits: &[u8], room: usize) -> Result<Vec<u8>, Refusal> {
+    fitting(Record::Table(notation::from_hex(inputs, digits)?).bytes(), room)
+}
+
+/// The record of the table that words stand for.
+pub fn from_words(inputs: u32, words: &[u64], room: usize) -> Result<Vec<u8>, Refusal> {
+    fitting(Record::Table(notation::from_words(inputs, words)?).bytes(), room)
 }
 
 /// The job carried on by the budget.
@@ -42,6 +55,19 @@ pub fn carry_on(record: &[u8], budget: u32, room: usize) -> Result<HandedBack, R
     carried(&mut job, budget, room)
 }
 
+/// The record of what the fresh job of a table shows: itself, or the witness of a table with a binate input.
+pub fn fresh(record: &[u8], room: usize) -> Result<Vec<u8>, Refusal> {
+    fitting(Job::fresh(table_of(record)?).shown().bytes(), room)
+}
+
+/// K of a saved job.
+pub fn corrections(record: &[u8]) -> Result<u32, Refusal> {
+    match Record::read(record)? {
+        Record::Job(job) => Ok(job.k as u32),
+        _ => Err(Refusal::OtherKind),
+    }
+}
+
 /// Whether the gate realises the table, or the witness balances.
 pub fn check(record: &[u8]) -> Result<bool, Refusal> {
     match Record::read(record)? {
@@ -49,6 +75,38 @@ pub fn check(record: &[u8]) -> Result<bool, Refusal> {
         Record::Witness(table, witness) => Ok(witness.balances(&table)),
         _ => Err(Refusal::OtherKind),
     }
+}
+
+/// The weights of a table's gate, and T.
+pub fn gate(record: &[u8], room: usize) -> Result<(Vec<i32>, i32), Refusal> {
+    let Record::Gate(_, Gate { weights, threshold }) = Record::read(record)? else { return Err(Refusal::OtherKind) };
+    let weights = weights.into_iter().map(|weight| weight as i32).collect();
+    Ok((fitting(weights, room)?, threshold as i32))
+}
+
+/// The count of each row of a table's witness.
+pub fn witness(record: &[u8], room: usize) -> Result<Vec<u32>, Refusal> {
+    let Record::Witness(_, Witness { counts }) = Record::read(record)? else { return Err(Refusal::OtherKind) };
+    fitting(counts.into_iter().map(|count| count as u32).collect(), room)
+}
+
+/// The record of a table with a gate of these weights and this T.
+pub fn from_gate(record: &[u8], weights: &[i32], threshold: i32, room: usize) -> Result<Vec<u8>, Refusal> {
+    let table = table_of(record)?;
+    demand(weights.len() == table.n, Refusal::NumberCount)?;
+    let (weights, threshold): (Vec<i64>, i64) = (weights.iter().map(|&weight| weight.into()).collect(), threshold.into());
+    demand(weights.iter().chain([&threshold]).all(|number| number.abs() <= gate::LIMIT), Refusal::GateRange)?;
+    fitting(Record::Gate(table, Gate { weights, threshold }).bytes(), room)
+}
+
+/// The record of a table with a witness of these counts.
+pub fn from_witness(record: &[u8], counts: &[u32], room: usize) -> Result<Vec<u8>, Refusal> {
+    let table = table_of(record)?;
+    demand(counts.len() == table.rows().len(), Refusal::NumberCount)?;
+    let counts: Vec<i64> = counts.iter().map(|&count| count.into()).collect();
+    demand(counts.iter().all(|&count| count <= witness::LIMIT), Refusal::RowList)?;
+    demand(counts.iter().any(|&count| count > 0), Refusal::RowList)?;
+    fitting(Record::Witness(table, Witness { counts }).bytes(), room)
 }
 
 /// The kind of the record.

@@ -1,6 +1,6 @@
 //! "Who causes which number": the refusals that calls on records can give.
 
-/// A refusal, by document 01's number; 100 is the C interface's own.
+/// A refusal, by document 01's number; those from 100 on are the C interface's own.
 #[derive(Clone, Copy, Debug, PartialEq, Eq)]
 pub enum Refusal {
     EndsEarly = 1,
@@ -17,6 +17,10 @@ pub enum Refusal {
     BufferTooShort = 12,
     RowPastTable = 14,
     OtherKind = 100,
+    DigitCount = 101,
+    NotADigit = 102,
+    TooFewWords = 103,
+    NumberCount = 104,
 }
 
 /// Refuses unless the rule is kept.
