@@ -1,0 +1,40 @@
+//! Saved jobs, carried on.
+
+use crate::known::Known;
+use crate::stream::{self, Item};
+use crate::trouble::{self, say, Trouble};
+use crate::{decide, files, words, written};
+
+/// What is asked.
+#[derive(Debug, PartialEq, Eq)]
+pub struct Asked {
+    pub file: String,
+    pub rows: bool,
+    pub budget: u32,
+}
+
+/// Carries each open job of a file on, decides its tables, and writes the file anew with what is known then. Gates and witnesses stay.
+pub fn carry_on(asked: &Asked) -> Result<u8, Trouble> {
+    let bytes = files::read(Some(&asked.file))?;
+    let items: Result<Vec<Item>, _> = stream::items(&bytes).collect();
+    let items = items.map_err(|refused| Trouble::Failed(refused.text(&asked.file)))?;
+    if items.is_empty() {
+        return Err(Trouble::Failed(format!("{}: no record is in it", asked.file)));
+    }
+    let known: Vec<Known> = items.into_iter().map(|item| carried_on(item, asked.budget)).collect();
+    let records: Vec<u8> = known.iter().flat_map(|known| known.record()).copied().collect();
+    files::write(&asked.file, &records)?;
+    let mut status = trouble::GATE;
+    for known in &known {
+        status = status.max(decide::status(known));
+        say(words::verdict(&written::digits(&known.table()), known, asked.rows, Some(&asked.file)))?;
+    }
+    Ok(status)
+}
+
+fn carried_on(item: Item, budget: u32) -> Known {
+    match item {
+        Item::Table(table) => Known::decided(&table, budget),
+        Item::Known(known) => known.carried_on(budget),
+    }
+}

@@ -1,0 +1,173 @@
+//! Verdicts in words.
+
+use crate::columns::{self, Rows};
+use crate::known::Known;
+use crate::{line, numbers};
+use threshold::{Gate, InputKind, SavedJob, Table, Verdict, Witness, CAP};
+
+/// What is known of a table, by the name that it was given: a line, and indented what there is to it. `rows` asks for each row, `saved` is
+/// the file where the verdict is saved.
+pub fn verdict(title: &str, known: &Known, rows: bool, saved: Option<&str>) -> String {
+    let (table, inputs) = (known.table(), numbers::of(known.table().inputs().into(), "input"));
+    let (verdict, mut lines) = match &known.verdict {
+        Verdict::Gate(gate) => ("one gate carries it", gate_lines(gate)),
+        Verdict::Witness(witness) => ("no gate carries it, whatever the weights", witness_lines(witness)),
+        Verdict::Open(job) => ("given up so far", open_lines(job, saved)),
+    };
+    lines.extend(found(known, &table));
+    if rows {
+        lines.extend(row_lines(known, &table));
+    }
+    indented(&format!("{title}, {inputs}: {verdict}"), &lines)
+}
+
+/// A line, and others indented below it.
+pub fn indented(first: &str, lines: &[String]) -> String {
+    let lines: String = lines.iter().map(|line| format!("    {line}\n")).collect();
+    format!("{first}\n{lines}")
+}
+
+/// The sum of a gate on a row: the weights of the row's true inputs, added up.
+pub fn sum(gate: &Gate, row: u32) -> i64 {
+    gate.weights().iter().enumerate().filter(|(place, _)| row >> place & 1 == 1).map(|(_, &weight)| i64::from(weight)).sum()
+}
+
+fn gate_lines(gate: &Gate) -> Vec<String> {
+    vec![gate.to_string(), sums(gate)]
+}
+
+/// The lowest sum of a true row and the highest of a false one.
+pub fn sums(gate: &Gate) -> String {
+    let table = gate.table();
+    let of = |value| (0..1 << gate.inputs()).filter(move |&row| table.value(row) == Ok(value)).map(|row| sum(gate, row));
+    match (of.clone()(true).min(), of(false).max()) {
+        (Some(lowest), Some(highest)) => format!("lowest true sum {lowest}, highest false sum {highest}"),
+        (Some(lowest), None) => format!("lowest true sum {lowest}, no row is false"),
+        (None, Some(highest)) => format!("highest false sum {highest}, no row is true"),
+        (None, None) => unreachable!("a table has a row"),
+    }
+}
+
+fn witness_lines(witness: &Witness) -> Vec<String> {
+    let sides = line::sides(witness);
+    let mut lines = columns::side_by_side(witness.inputs(), &sides);
+    lines.extend(meaning(witness.inputs(), &sides));
+    lines
+}
+
+/// Why two lists that balance leave no gate.
+pub fn meaning(inputs: u32, sides: &[Rows; 2]) -> Vec<String> {
+    let rows = numbers::of(columns::totals(inputs, &sides[0])[0], "row");
+    vec![
+        format!("Each list has {rows}, and each input is true equally often in both. So under"),
+        "any weights the sums of both lists add up to the same total. But a gate gives".to_string(),
+        "each true row a sum of T or more and each false row less than T, so the true".to_string(),
+        "rows would have the higher total: there is no such gate.".to_string(),
+    ]
+}
+
+fn open_lines(job: &SavedJob, saved: Option<&str>) -> Vec<String> {
+    let (made, cap) = (numbers::grouped(job.corrections().into()), numbers::grouped(CAP.into()));
+    let next = match saved {
+        _ if job.corrections() == CAP => "the cap is reached: this job cannot go on".to_string(),
+        Some(file) => format!("to go on: threshold on {file}"),
+        None => format!("to go on: ask with --save FILE, then `threshold on FILE`; or ask with --budget {CAP}"),
+    };
+    vec![format!("{made} corrections made, of at most {cap}"), next]
+}
+
+/// After how many corrections a verdict was found, if it is one and that is known.
+fn found(known: &Known, table: &Table) -> Option<String> {
+    match (&known.verdict, known.corrections?) {
+        (Verdict::Open(_), _) => None,
+        (Verdict::Witness(_), 0) => Some(format!("found at once: {}", binate(table))),
+        (_, corrections) => Some(format!("found after {}", numbers::of(corrections.into(), "correction"))),
+    }
+}
+
+/// The inputs that alone leave no gate.
+fn binate(table: &Table) -> String {
+    let inputs = (1..).zip(table.kinds()).filter(|(_, kind)| *kind == InputKind::Binate);
+    let names: Vec<String> = inputs.map(|(input, _)| format!("x{input}")).collect();
+    let (are, each) = if names.len() == 1 { ("is", "it") } else { ("are", "each") };
+    format!("{} {are} binate ({each} turns some rows true and others false)", numbers::listed(&names))
+}
+
+/// Each row with its value, and with its sum or how often a witness has it.
+fn row_lines(known: &Known, table: &Table) -> Vec<String> {
+    let value = |row| i64::from(table.value(row) == Ok(true));
+    match &known.verdict {
+        Verdict::Gate(gate) => columns::each_row(table.inputs(), &[("value", &value), ("sum", &|row| sum(gate, row))]),
+        Verdict::Witness(witness) => {
+            let times = |row| witness.rows().find(|pair| pair.0 == row).map_or(0, |pair| i64::from(pair.1));
+            columns::each_row(table.inputs(), &[("value", &value), ("times", &times)])
+        }
+        Verdict::Open(_) => columns::each_row(table.inputs(), &[("value", &value)]),
+    }
+}
+
+#[cfg(test)]
+mod tests {
+    use super::*;
+    use crate::known::tests::slow;
+    use crate::written;
+    use threshold::CALL_BUDGET;
+
+    fn shown(text: &str, rows: bool) -> String {
+        verdict(text, &Known::decided(&written::table(text, None).unwrap(), CALL_BUDGET), rows, None)
+    }
+
+    #[test]
+    fn a_gate_in_words() {
+        let expected = "\
+e8, 3 inputs: one gate carries it
+    2 x1 + 3 x2 + 3 x3 >= 4
+    lowest true sum 5, highest false sum 3
+    found after 24 corrections
+";
+        assert_eq!(shown("e8", false), expected);
+        let rows = "    row x1 x2 x3 value sum\n      0  0  0  0     0   0\n      1  1  0  0     0   2\n";
+        assert!(shown("e8", true).starts_with(&format!("{expected}{rows}")));
+        assert!(shown("e8", true).ends_with("\n      7  1  1  1     1   8\n"));
+    }
+
+    #[test]
+    fn a_table_of_one_value_in_words() {
+        assert!(shown("00", false).contains("highest false sum 0, no row is true\n"));
+        assert!(
+            shown("1/0", false).starts_with("1/0, 0 inputs: one gate carries it\n    0 >= -1\n    lowest true sum 0, no row is false\n")
+        );
+    }
+
+    #[test]
+    fn a_witness_in_words() {
+        let expected = "\
+f888, 4 inputs: no gate carries it, whatever the weights
+    true rows                 false rows
+    row times x1 x2 x3 x4     row times x1 x2 x3 x4
+      3     1  1  1  0  0       6     1  0  1  1  0
+     12     1  0  0  1  1       9     1  1  0  0  1
+    sum     2  1  1  1  1     sum     2  1  1  1  1
+    Each list has 2 rows, and each input is true equally often in both. So under
+    any weights the sums of both lists add up to the same total. But a gate gives
+    each true row a sum of T or more and each false row less than T, so the true
+    rows would have the higher total: there is no such gate.
+    found after 68 corrections
+";
+        assert_eq!(shown("f888", false), expected);
+        assert!(shown("f888", true).ends_with("\n     15  1  1  1  1     1     0\n"));
+        assert!(shown("6", false).ends_with("    found at once: x1 and x2 are binate (each turns some rows true and others false)\n"));
+    }
+
+    #[test]
+    fn an_open_job_in_words() {
+        let known = Known::decided(&slow(), CALL_BUDGET);
+        let expected = "\
+slow, 8 inputs: given up so far
+    100,000 corrections made, of at most 1,000,000
+    to go on: ask with --save FILE, then `threshold on FILE`; or ask with --budget 1000000
+";
+        assert_eq!(verdict("slow", &known, false, None), expected);
+        assert!(verdict("slow", &known, false, Some("job")).ends_with("\n    to go on: threshold on job\n"));
+    }
+}

@@ -1,0 +1,174 @@
+//! Tables as they are written: hex digits, binary digits, expressions. An error is in words.
+
+use crate::expression::{Expression, Fault};
+use crate::numbers;
+use threshold::{Refusal, Table};
+
+/// A table by hex digits, with or without `0x`, or by binary digits after `0b`, the highest row first. After a `/` may stand the number of
+/// inputs: one hex digit is a table of two inputs, and `2/1` one of one. `inputs` is what the call says of them, if anything.
+///
+/// `0b` begins hex digits too, as those of the table 0b11 of four inputs. Where their number is right for a table they are hex; so a table
+/// of one input is written in binary digits only where its inputs are named.
+pub fn table(text: &str, inputs: Option<u32>) -> Result<Table, String> {
+    if let Some((digits, named)) = text.rsplit_once('/') {
+        let named = named.parse().ok().filter(|&named| named <= 8).ok_or_else(|| format!("{text:?}: after the / stand 0 to 8 inputs"))?;
+        return table(digits, Some(named));
+    }
+    let hex_length = match inputs {
+        Some(inputs) => text.len() == hex_digits(inputs),
+        None => text.len().is_power_of_two(),
+    };
+    match text.strip_prefix("0b").or_else(|| text.strip_prefix("0B")) {
+        Some(digits) if !hex_length => binary(text, digits, inputs),
+        _ => hex(text, inputs),
+    }
+}
+
+/// The number of hex digits of a table.
+fn hex_digits(inputs: u32) -> usize {
+    (1usize << inputs).div_ceil(4)
+}
+
+fn hex(text: &str, inputs: Option<u32>) -> Result<Table, String> {
+    let digits = text.strip_prefix("0x").or_else(|| text.strip_prefix("0X")).unwrap_or(text);
+    if let Some(wrong) = digits.chars().find(|c| !c.is_ascii_hexdigit()) {
+        return Err(format!("{text:?} is no table: {wrong:?} is not a hex digit"));
+    }
+    let table = match inputs {
+        Some(inputs) => Table::from_hex(inputs, digits),
+        None => digits.parse(),
+    };
+    table.map_err(|refusal| match (refusal, inputs) {
+        (Refusal::Digits | Refusal::Inputs, None) => {
+            let found = numbers::of(digits.len() as u64, "hex digit");
+            format!("{text:?} has {found}: a table of 2 to 8 inputs has 1, 2, 4, 8, 16, 32 or 64")
+        }
+        (Refusal::Digits, Some(inputs)) => {
+            let due = numbers::of(hex_digits(inputs) as u64, "hex digit");
+            format!("{text:?} is no table of {}, which has {due}", numbers::of(inputs.into(), "input"))
+        }
+        _ => format!("{text:?} is {refusal}"),
+    })
+}
+
+fn binary(text: &str, digits: &str, inputs: Option<u32>) -> Result<Table, String> {
+    if let Some(wrong) = digits.chars().find(|c| !matches!(c, '0' | '1')) {
+        return Err(format!("{text:?} is no table: {wrong:?} is not a binary digit"));
+    }
+    let (count, own) = (digits.len(), digits.len().trailing_zeros());
+    if !count.is_power_of_two() || own > 8 {
+        let found = numbers::of(count as u64, "binary digit");
+        return Err(format!("{text:?} has {found}: a table of 0 to 8 inputs has 1, 2, 4, 8, 16, 32, 64, 128 or 256"));
+    }
+    if inputs.is_some_and(|inputs| inputs != own) {
+        return Err(format!("{text:?} is a table of {}", numbers::of(own.into(), "input")));
+    }
+    let rows = digits.as_bytes();
+    Table::from_fn(own, |row| rows[count - 1 - row as usize] == b'1').map_err(|refusal| format!("{text:?} is {refusal}"))
+}
+
+/// The table of an expression, of as many inputs as the highest that it names, or of more if `inputs` says so. The error shows the place.
+pub fn expression(text: &str, inputs: Option<u32>) -> Result<Table, String> {
+    let read = Expression::read(text).map_err(|fault| shown(text, &fault))?;
+    let inputs = inputs.unwrap_or(read.highest);
+    if inputs < read.highest {
+        return Err(format!("the expression {text:?} names x{}, past -n {inputs}", read.highest));
+    }
+    Table::from_words(inputs, read.values.words()).map_err(|refusal| refusal.to_string())
+}
+
+/// The fault under the expression, with a caret at its place.
+fn shown(text: &str, fault: &Fault) -> String {
+    let line: String = text.chars().map(|c| if c.is_control() { ' ' } else { c }).collect();
+    format!("the expression cannot be read\n    {line}\n    {}^ {}", " ".repeat(fault.at), fault.what)
+}
+
+/// A table as [`table`] reads it: its hex digits, and for a table under two inputs their number.
+pub fn digits(table: &Table) -> String {
+    match table.inputs() {
+        inputs @ 0..=1 => format!("{table}/{inputs}"),
+        _ => table.to_string(),
+    }
+}
+
+#[cfg(test)]
+mod tests {
+    use super::*;
+
+    fn same(text: &str, inputs: u32, words: [u64; 4]) {
+        assert_eq!(table(text, None), Ok(Table::from_words(inputs, &words).unwrap()), "{text}");
+    }
+
+    #[test]
+    fn digits_have_the_highest_row_first() {
+        same("8000", 4, [0x8000, 0, 0, 0]);
+        same("0xE8", 3, [0xe8, 0, 0, 0]);
+        same("0b11101000", 3, [0xe8, 0, 0, 0]);
+        same("6", 2, [6, 0, 0, 0]);
+        same("0b0110", 2, [6, 0, 0, 0]);
+        same("0b1", 0, [1, 0, 0, 0]);
+        same("2/1", 1, [2, 0, 0, 0]);
+        same("0b10/1", 1, [2, 0, 0, 0]);
+        same("1/0", 0, [1, 0, 0, 0]);
+        same("e8/3", 3, [0xe8, 0, 0, 0]);
+        same(&format!("{:064x}", 1), 8, [1, 0, 0, 0]);
+        same(&format!("0b1{}", "0".repeat(255)), 8, [0, 0, 0, 1 << 63]);
+    }
+
+    #[test]
+    fn hex_digits_that_begin_like_binary_ones_stay_hex() {
+        same("0b", 3, [0x0b, 0, 0, 0]);
+        same("0b11", 4, [0x0b11, 0, 0, 0]);
+        same("0b111011", 5, [0x0b11_1011, 0, 0, 0]);
+        (0..0x1_0000).for_each(|word| same(&format!("{word:04x}"), 4, [word, 0, 0, 0]));
+    }
+
+    #[test]
+    fn the_call_may_name_the_inputs() {
+        assert_eq!(table("2", Some(1)), Table::from_words(1, &[2]).map_err(|_| String::new()));
+        assert_eq!(table("0b10", Some(1)), table("2/1", None));
+        assert_eq!(table("0b10", Some(4)), table("0b10", None));
+        assert_eq!(table("0", Some(0)), table("0b0", None));
+        assert_eq!(table("e8", Some(4)).unwrap_err(), "\"e8\" is no table of 4 inputs, which has 4 hex digits");
+        assert_eq!(table("0b1000", Some(3)).unwrap_err(), "\"0b1000\" is a table of 2 inputs");
+    }
+
+    #[test]
+    fn a_wrong_table_is_told() {
+        for (text, told) in [
+            ("", "\"\" has 0 hex digits: a table of 2 to 8 inputs has 1, 2, 4, 8, 16, 32 or 64"),
+            ("0x", "\"0x\" has 0 hex digits: a table of 2 to 8 inputs has 1, 2, 4, 8, 16, 32 or 64"),
+            ("abc", "\"abc\" has 3 hex digits: a table of 2 to 8 inputs has 1, 2, 4, 8, 16, 32 or 64"),
+            ("eg", "\"eg\" is no table: 'g' is not a hex digit"),
+            ("é", "\"é\" is no table: 'é' is not a hex digit"),
+            ("0b102", "\"0b102\" is no table: '2' is not a binary digit"),
+            ("0b111", "\"0b111\" has 3 binary digits: a table of 0 to 8 inputs has 1, 2, 4, 8, 16, 32, 64, 128 or 256"),
+            ("e8/9", "\"e8/9\": after the / stand 0 to 8 inputs"),
+        ] {
+            assert_eq!(table(text, None).unwrap_err(), told);
+        }
+        assert!(table(&"0".repeat(128), None)
+            .unwrap_err()
+            .ends_with("has 128 hex digits: a table of 2 to 8 inputs has 1, 2, 4, 8, 16, 32 or 64"));
+    }
+
+    #[test]
+    fn expressions_are_tables() {
+        assert_eq!(expression("x1 x2 + !x3", None), table("8f", None));
+        assert_eq!(expression("x1", None), table("2/1", None));
+        assert_eq!(expression("x1", Some(3)), table("aa", None));
+        assert_eq!(expression("x8", None), table(&format!("{}{}", "f".repeat(32), "0".repeat(32)), None));
+        assert_eq!(expression("x3", Some(2)).unwrap_err(), "the expression \"x3\" names x3, past -n 2");
+        assert_eq!(
+            expression("x1 + + x2", None).unwrap_err(),
+            "the expression cannot be read\n    x1 + + x2\n         ^ an input, 0, 1, maj(..) or `(` is missing here"
+        );
+    }
+
+    #[test]
+    fn digits_are_read_again() {
+        for text in ["0/0", "1/0", "2/1", "6", "e8", "f888"] {
+            assert_eq!(digits(&table(text, None).unwrap()), text);
+        }
+    }
+}

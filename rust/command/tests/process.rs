@@ -1,0 +1,135 @@
+//! The command as a process: statuses, what goes to standard error, files, and outputs that are closed or full.
+
+use std::fs::{self, File};
+use std::io::{Read, Write};
+use std::path::PathBuf;
+use std::process::{Command, Stdio};
+
+/// A table that is open after 100,000 corrections and has a witness after 131,076.
+const SLOW: &str = "fffffaaae8a8a0a0eaeaa8a0a0a08000a8a0808080800000a0a0000000000000";
+
+fn command(arguments: &[&str]) -> Command {
+    let mut command = Command::new(env!("CARGO_BIN_EXE_threshold"));
+    command.args(arguments).stdin(Stdio::null());
+    command
+}
+
+/// The status, and what is written to standard output and to standard error.
+fn ran(arguments: &[&str], input: &[u8]) -> (i32, Vec<u8>, String) {
+    let mut child = command(arguments).stdin(Stdio::piped()).stdout(Stdio::piped()).stderr(Stdio::piped()).spawn().unwrap();
+    child.stdin.take().unwrap().write_all(input).unwrap();
+    let output = child.wait_with_output().unwrap();
+    (output.status.code().unwrap(), output.stdout, String::from_utf8(output.stderr).unwrap())
+}
+
+/// A folder for one test.
+fn folder(name: &str) -> PathBuf {
+    let folder = std::env::temp_dir().join(format!("threshold-{name}-{}", std::process::id()));
+    fs::create_dir_all(&folder).unwrap();
+    folder
+}
+
+#[test]
+fn statuses_tell_the_verdicts() {
+    for (arguments, status) in [
+        (&["e8"][..], 0),
+        (&["f888"], 1),
+        (&["e8", "f888", "e8"], 1),
+        (&[SLOW], 3),
+        (&["f888", SLOW, "e8"], 3),
+        (&[SLOW, "--budget", "1000000"], 1),
+        (&["check", "e8: 1 1 1 >= 2"], 0),
+        (&["check", "e8: 1 1 1 >= 2", "e8: 1 1 1 >= 1"], 1),
+        (&["--help"], 0),
+    ] {
+        let (found, output, errors) = ran(arguments, b"");
+        assert_eq!((found, errors.as_str()), (status, ""), "{arguments:?}");
+        assert!(!output.is_empty());
+    }
+}
+
+#[test]
+fn a_wrong_call_has_a_hint_and_no_output() {
+    for arguments in [&[][..], &["e8", "zz"], &["-e", "x1 +"], &["check", "e8"], &["many", "--jobs", "none"], &["on"], &["--rows"]] {
+        let (status, output, errors) = ran(arguments, b"");
+        assert_eq!((status, output.len()), (2, 0), "{arguments:?}");
+        assert!(errors.starts_with("threshold: ") && errors.ends_with("\nthreshold --help shows what can be asked\n"), "{errors}");
+    }
+}
+
+#[test]
+fn a_job_is_saved_and_carried_on() {
+    let folder = folder("job");
+    let file = folder.join("job.bin");
+    let name = file.to_str().unwrap();
+    assert_eq!(ran(&["--save", name, SLOW, "e8"], b"").0, 3);
+    let (status, output, _) = ran(&["on", name, "--budget", "31075"], b"");
+    assert_eq!(status, 3);
+    assert!(String::from_utf8(output).unwrap().contains("131,075 corrections made"));
+    let (status, output, _) = ran(&["on", name, "--budget", "1"], b"");
+    assert_eq!(status, 1);
+    assert!(String::from_utf8(output).unwrap().contains("found after 131,076 corrections"));
+    let listed = format!("{SLOW}: 222 225 = 217 230\ne8: 2 3 3 >= 4\n");
+    assert_eq!(ran(&["list", name], b""), (0, listed.into_bytes(), String::new()));
+    assert_eq!(fs::read_dir(&folder).unwrap().count(), 1);
+    fs::remove_dir_all(folder).unwrap();
+}
+
+#[test]
+fn lines_are_packed_and_listed() {
+    let lines = b"2/1\ne8\ne8: 2 3 3 >= 4\nf888: 3 12 = 5 10\n";
+    let (status, records, _) = ran(&["pack"], lines);
+    assert_eq!((status, &records[..6]), (0, &[1, 1, 0x02, 1, 3, 0xe8][..]));
+    assert_eq!(ran(&["list"], &records), (0, lines.to_vec(), String::new()));
+    let (status, output, errors) = ran(&["list"], &[1, 1, 0x02, 1, 1, 0x04]);
+    assert_eq!((status, output), (4, b"2/1\n".to_vec()));
+    assert_eq!(errors, "threshold: standard input: record 2, at byte 3, is refused by 3: a spare bit of the table is set\n");
+    let (status, output, errors) = ran(&["pack"], b"e8\n\nzz\n");
+    assert_eq!((status, output.len()), (4, 0));
+    assert_eq!(errors, "threshold: standard input, line 3: \"zz\" is no table: 'z' is not a hex digit\n");
+}
+
+#[test]
+fn a_wrong_line_of_many_is_told_and_the_rest_answered() {
+    let (status, output, errors) = ran(&["many"], b"e8\nzz\n8\n");
+    assert_eq!((status, output), (4, b"e8: 2 3 3 >= 4\n8: 2 3 >= 4\n".to_vec()));
+    let told = "threshold: line 2: \"zz\" is no table: 'z' is not a hex digit\n";
+    assert_eq!(errors, format!("{told}2 tables, 2 distinct, in under 1 s: 2 with a gate, 0 without, 0 given up; 1 wrong line\n"));
+}
+
+#[test]
+fn what_cannot_be_read_is_told() {
+    for arguments in [["on", "/nowhere/job"], ["list", "/nowhere/records"], ["many", "/nowhere/tables"], ["pack", "/"], ["many", "/"]] {
+        let (status, output, errors) = ran(&arguments, b"");
+        assert_eq!((status, output.len()), (4, 0), "{arguments:?}");
+        assert!(errors.starts_with(&format!("threshold: {}: ", arguments[1])), "{errors}");
+    }
+}
+
+#[test]
+fn a_full_disk_is_told() {
+    let full = || File::options().write(true).open("/dev/full").unwrap();
+    for arguments in [&["e8"][..], &["--help"], &["check", "e8: 1 1 1 >= 2"], &["many"], &["pack"]] {
+        let mut child = command(arguments).stdin(Stdio::piped()).stdout(full()).stderr(Stdio::piped()).spawn().unwrap();
+        // Some of these do not read it, and may have ended.
+        let _ = child.stdin.take().unwrap().write_all(b"e8\n");
+        let output = child.wait_with_output().unwrap();
+        let errors = String::from_utf8(output.stderr).unwrap();
+        assert_eq!(output.status.code(), Some(4), "{arguments:?}");
+        assert!(errors.starts_with("threshold: standard output: No space left"), "{errors}");
+    }
+    assert_eq!(ran(&["e8", "--save", "/dev/full"], b"").0, 4);
+}
+
+#[test]
+fn a_closed_pipe_ends_the_work_quietly() {
+    let mut child = command(&["many"]).stdin(Stdio::piped()).stdout(Stdio::piped()).stderr(Stdio::piped()).spawn().unwrap();
+    let mut input = child.stdin.take().unwrap();
+    drop(child.stdout.take());
+    // The command ends before it has read all of this, and its input is closed then.
+    let _ = (0..100_000).try_for_each(|_| input.write_all(b"e8e8e8e8e8e8e8e8\n"));
+    drop(input);
+    let mut errors = String::new();
+    child.stderr.take().unwrap().read_to_string(&mut errors).unwrap();
+    assert_eq!((child.wait().unwrap().code(), errors.as_str()), (Some(4), ""));
+}
