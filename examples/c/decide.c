@@ -1,130 +1,134 @@
-/* Decides two tables. The second is still open after 100,000 corrections: its job is kept as bytes, as a file would keep it, and carried
- * on later. The certificate at the end of each is checked. At last a job is carried on up to the cap. */
+/* Decides tables written as hex digits, keeps an open job as bytes and carries it on later, carries a fresh job on by budgets of its own,
+ * and checks a gate and a witness from elsewhere. Each call is tested for a refusal before its length is used. */
 #include <inttypes.h>
 #include <stdio.h>
 #include <string.h>
 
 #include "threshold.h"
 
-/* Two inputs: true where both are. */
-static const uint8_t both[] = {THRESHOLD_RECORD_TABLE, 2, 0x08};
-
 /* Eight inputs: settled after 131,076 corrections. */
-static const uint8_t slow[] = {THRESHOLD_RECORD_TABLE, 8,
-    0x00, 0x00, 0x00, 0x00, 0x00, 0x00, 0xa0, 0xa0, 0x00, 0x00, 0x80, 0x80, 0x80, 0x80, 0xa0, 0xa8,
-    0x00, 0x80, 0xa0, 0xa0, 0xa0, 0xa8, 0xea, 0xea, 0xa0, 0xa0, 0xa8, 0xe8, 0xaa, 0xfa, 0xff, 0xff};
+static const char slow_digits[] = "fffffaaae8a8a0a0eaeaa8a0a0a08000a8a0808080800000a0a0000000000000";
 
-/* Reads a number and moves past it: seven bits a byte, lowest first, all but the last byte with bit 7 set. */
-static int32_t number(const uint8_t **at) {
-    int32_t value = 0;
-    int shift = 0;
-    while (**at & 0x80) {
-        value |= (int32_t)(*(*at)++ & 0x7f) << shift;
-        shift += 7;
+/* A record, or the refusal of the call that was to write it: a length below 0. */
+struct record {
+    uint8_t bytes[THRESHOLD_ROOM];
+    int64_t length;
+};
+
+static size_t size(const struct record *record) {
+    return record->length < 0 ? 0 : (size_t)record->length;
+}
+
+static struct record table(uint32_t inputs, const char *digits) {
+    struct record out;
+    out.length = threshold_from_hex(inputs, digits, strlen(digits), out.bytes, sizeof out.bytes);
+    return out;
+}
+
+static void print_gate(const struct record *record) {
+    int32_t weights[8], threshold;
+    int64_t n = threshold_gate(record->bytes, size(record), weights, 8, &threshold);
+    printf("a gate, weights");
+    for (int64_t input = 0; input < n; input++) {
+        printf(" %" PRId32, weights[input]);
     }
-    return value | (int32_t)*(*at)++ << shift;
+    printf(", T %" PRId32, threshold);
 }
 
-/* Reads a signed number z, written as 2z, or as -2z - 1 when negative. */
-static int32_t signed_number(const uint8_t **at) {
-    int32_t code = number(at);
-    return code % 2 == 0 ? code / 2 : -(code + 1) / 2;
-}
-
-/* Writes a number and moves past it. */
-static void put_number(uint8_t **at, int32_t value) {
-    for (; value >= 0x80; value >>= 7) {
-        *(*at)++ = (uint8_t)(value | 0x80);
-    }
-    *(*at)++ = (uint8_t)value;
-}
-
-/* Writes a job of the first table, one correction below the cap: since the mark at 2^19 all of them by row 0, so that v is (0, 0, count)
- * and s is 0. Returns the length. */
-static size_t put_job(uint8_t *job) {
-    int32_t corrections = THRESHOLD_CAP - 1;
-    int32_t count = corrections - (1 << 19);
-    const int32_t numbers[] = {corrections, 0, 0, 2 * count, 0, 0, 0, 1, 0, count};
-    uint8_t *at = job;
-    *at++ = THRESHOLD_RECORD_JOB;
-    memcpy(at, both + 1, sizeof both - 1);
-    at += sizeof both - 1;
-    for (size_t i = 0; i < sizeof numbers / sizeof numbers[0]; i++) {
-        put_number(&at, numbers[i]);
-    }
-    return (size_t)(at - job);
-}
-
-/* Prints the weights and T of a gate's record. */
-static void print_gate(int n, const uint8_t *at) {
-    printf("gate, weights");
-    for (int input = 1; input <= n; input++) {
-        printf(" %" PRId32, signed_number(&at));
-    }
-    printf(", T %" PRId32, signed_number(&at));
-}
-
-/* Prints the rows of a witness's record with their counts. */
-static void print_witness(const uint8_t *at) {
+static void print_witness(const struct record *record) {
+    uint32_t counts[256];
+    int64_t rows = threshold_witness(record->bytes, size(record), counts, 256);
     printf("no gate, witness");
-    for (int32_t pairs = number(&at); pairs > 0; pairs--) {
-        int32_t row = number(&at);
-        printf(" %" PRId32 ":%" PRId32, row, number(&at));
+    for (int64_t row = 0; row < rows; row++) {
+        if (counts[row] != 0) {
+            printf(" %" PRId64 ":%" PRIu32, row, counts[row]);
+        }
     }
 }
 
-/* Prints what a call gave: the corrections made with the answer in the record, or the refusal. */
-static void print_answer(const char *name, const uint8_t *record, int64_t length, uint32_t made) {
+static void print_check(const struct record *record) {
+    printf(threshold_check(record->bytes, size(record)) == 1 ? "; checked\n" : "; wrong\n");
+}
+
+/* Prints what is in a record, or why there is none. */
+static void print(const char *name, const struct record *record) {
     printf("%s: ", name);
-    if (length < 0) {
-        printf("refused by %" PRId64 "\n", -length);
+    if (record->length < 0) {
+        printf("refused by %" PRId64 ", %s\n", -record->length, threshold_refusal_text(record->length));
         return;
     }
-    printf("%" PRIu32 " corrections made, ", made);
-    int n = record[1];
-    const uint8_t *at = record + 2 + ((1 << n) + 7) / 8;
-    switch (threshold_kind(record, (size_t)length)) {
+    switch (threshold_kind(record->bytes, size(record))) {
     case THRESHOLD_RECORD_GATE:
-        print_gate(n, at);
+        print_gate(record);
+        print_check(record);
         break;
     case THRESHOLD_RECORD_WITNESS:
-        print_witness(at);
+        print_witness(record);
+        print_check(record);
+        break;
+    case THRESHOLD_RECORD_JOB:
+        printf("open at K %" PRId64 "\n", threshold_corrections(record->bytes, size(record)));
         break;
     default:
-        printf("open at K %" PRId32 ", a job of %" PRId64 " bytes\n", number(&at), length);
-        return;
+        printf("a table\n");
     }
-    printf("; checked: %s\n", threshold_check(record, (size_t)length) == 1 ? "yes" : "no");
+}
+
+static void print_made(const char *name, const struct record *record, uint32_t made) {
+    print(name, record);
+    if (record->length >= 0) {
+        printf("  after %" PRIu32 " corrections\n", made);
+    }
+}
+
+static struct record decide(const char *name, const struct record *table) {
+    struct record out;
+    uint32_t made = 0;
+    out.length = threshold_decide(table->bytes, size(table), out.bytes, sizeof out.bytes, &made);
+    print_made(name, &out, made);
+    return out;
+}
+
+static void carry_on(const char *name, const struct record *job, uint32_t budget) {
+    struct record out;
+    uint32_t made = 0;
+    out.length = threshold_carry_on(job->bytes, size(job), budget, out.bytes, sizeof out.bytes, &made);
+    print_made(name, &out, made);
+}
+
+/* Certificates that others hand in for a table: numbers, made into records to be checked. */
+static void check_others(const struct record *majority, const struct record *products) {
+    static const int32_t weights[] = {1, 1, 1};
+    static const uint32_t counts[16] = {[3] = 1, [5] = 1, [10] = 1, [12] = 1};
+    struct record out;
+    out.length = threshold_from_gate(majority->bytes, size(majority), weights, 3, 2, out.bytes, sizeof out.bytes);
+    print("1 1 1, T 2 for the majority", &out);
+    out.length = threshold_from_gate(majority->bytes, size(majority), weights, 3, 3, out.bytes, sizeof out.bytes);
+    print("1 1 1, T 3 for the majority", &out);
+    out.length = threshold_from_gate(majority->bytes, size(majority), weights, 2, 2, out.bytes, sizeof out.bytes);
+    print("two weights for the majority", &out);
+    out.length = threshold_from_witness(products->bytes, size(products), counts, 16, out.bytes, sizeof out.bytes);
+    print("rows 3 12 and 5 10 for x1 x2 + x3 x4", &out);
 }
 
 int main(void) {
-    uint8_t out[THRESHOLD_ROOM];
-    uint32_t made = 0;
-    int64_t length = threshold_decide(both, sizeof both, out, sizeof out, &made);
-    print_answer("both", out, length, made);
+    struct record majority = table(3, "e8"), products = table(4, "f888"), slow = table(8, slow_digits), out;
+    decide("the majority", &majority);
+    decide("x1 x2 + x3 x4", &products);
+    check_others(&majority, &products);
 
-    length = threshold_decide(slow, sizeof slow, out, sizeof out, &made);
-    print_answer("slow", out, length, made);
-    if (length < 0 || threshold_kind(out, (size_t)length) != THRESHOLD_RECORD_JOB) {
-        return 1;
-    }
+    struct record saved = decide("slow", &slow);
+    carry_on("slow, carried on", &saved, THRESHOLD_CALL_BUDGET);
+    carry_on("slow, by no budget", &saved, 0);
+    carry_on("a table, carried on", &slow, THRESHOLD_CALL_BUDGET);
 
-    uint8_t saved[THRESHOLD_ROOM];
-    size_t saved_length = (size_t)length;
-    memcpy(saved, out, saved_length);
-    length = threshold_carry_on(saved, saved_length, 0, out, sizeof out, &made);
-    print_answer("slow, no budget", out, length, made);
-    length = threshold_carry_on(saved, saved_length, THRESHOLD_CALL_BUDGET, out, sizeof out, &made);
-    print_answer("slow, carried on", out, length, made);
-    length = threshold_carry_on(saved, saved_length - 1, THRESHOLD_CALL_BUDGET, out, sizeof out, &made);
-    print_answer("slow, cut short", out, length, made);
-    length = threshold_decide(saved, saved_length, out, sizeof out, &made);
-    print_answer("slow, its job decided as a table", out, length, made);
+    out.length = threshold_fresh(majority.bytes, size(&majority), out.bytes, sizeof out.bytes);
+    print("the majority, fresh", &out);
+    carry_on("the majority, ten on", &out, 10);
 
-    saved_length = put_job(saved);
-    length = threshold_carry_on(saved, saved_length, 2, out, sizeof out, &made);
-    print_answer("both, past the cap", out, length, made);
-    length = threshold_carry_on(saved, saved_length, 1, out, sizeof out, &made);
-    print_answer("both, at the cap", out, length, made);
+    out = table(4, "8");
+    print("8 of four inputs", &out);
+    out = table(4, "800o");
+    print("800o of four inputs", &out);
     return 0;
 }

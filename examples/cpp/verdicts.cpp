@@ -1,0 +1,94 @@
+// Decides tables given as hex digits, as words, and as a type with num_vars() and words, as kitty's tables are; keeps an open job as bytes
+// and carries it on; and checks gates from elsewhere.
+#include <cstdint>
+#include <iostream>
+#include <type_traits>
+#include <variant>
+#include <vector>
+
+#include "threshold.hpp"
+
+using threshold::Gate, threshold::Job, threshold::Outcome, threshold::Table, threshold::Witness;
+
+static_assert(std::is_trivially_copyable_v<Outcome>, "a verdict is a plain value");
+
+// A table as kitty has it: the number of variables, and words of 64 rows.
+struct TruthTable {
+    std::uint32_t vars;
+    std::vector<std::uint64_t> words;
+    std::uint32_t num_vars() const noexcept { return vars; }
+    auto cbegin() const noexcept { return words.cbegin(); }
+    auto cend() const noexcept { return words.cend(); }
+};
+
+struct Print {
+    void operator()(const Gate &gate) const {
+        std::cout << "a gate, weights";
+        for (const auto weight : gate.weights()) {
+            std::cout << ' ' << weight;
+        }
+        std::cout << ", T " << gate.threshold() << "; checked: " << (gate.check() ? "yes" : "no") << '\n';
+    }
+    void operator()(const Witness &witness) const {
+        std::cout << "no gate, witness";
+        const auto counts = witness.counts();
+        for (std::size_t row = 0; row < counts.size(); ++row) {
+            if (counts[row] != 0) {
+                std::cout << ' ' << row << ':' << counts[row];
+            }
+        }
+        std::cout << "; checked: " << (witness.check() ? "yes" : "no") << '\n';
+    }
+    void operator()(const Job &job) const { std::cout << "open at K " << job.corrections() << '\n'; }
+};
+
+void print(const char *name, const threshold::Result<Outcome> &outcome) {
+    std::cout << name << ": ";
+    if (!outcome) {
+        std::cout << "refused, " << threshold::text(outcome.refusal()) << '\n';
+        return;
+    }
+    std::cout << outcome->made << " corrections made, ";
+    std::visit(Print{}, outcome->verdict);
+}
+
+// Keeps a job's bytes, as a file would, reads them back and carries the job on.
+void carry_on(const Job &job) {
+    const threshold::Bytes record = job.record();
+    const std::vector<std::uint8_t> kept(record.begin(), record.end());
+    if (const auto again = Job::from_record(kept.data(), kept.size())) {
+        print("slow, carried on", again->carry_on());
+        print("slow, by no budget", again->carry_on(0));
+    }
+}
+
+// Checks the gate 1 1 1 with T against the majority of three.
+void check(const Table &majority, std::int32_t threshold) {
+    const std::int32_t weights[] = {1, 1, 1};
+    if (const auto gate = Gate::from(majority, weights, 3, threshold)) {
+        std::cout << "1 1 1, T " << threshold << ": " << (gate->check() ? "the majority\n" : "not the majority\n");
+    }
+}
+
+int main() {
+    const auto majority = Table::from_hex(3, "e8");
+    if (!majority) {
+        return 1;
+    }
+    print("majority", threshold::decide(*majority));
+    check(*majority, 2);
+    check(*majority, 3);
+
+    const std::uint64_t words[] = {0xa0a0000000000000, 0xa8a0808080800000, 0xeaeaa8a0a0a08000, 0xfffffaaae8a8a0a0};
+    const auto slow = threshold::decide(8, words, 4);
+    print("slow", slow);
+    if (const Job *job = slow ? std::get_if<Job>(&slow->verdict) : nullptr) {
+        carry_on(*job);
+    }
+
+    print("xor", threshold::decide(TruthTable{2, {0x6}}));
+    print("nine variables", threshold::decide(TruthTable{9, std::vector<std::uint64_t>(8)}));
+    print("too few words", threshold::decide(8, words, 3));
+    std::cout << "e: " << threshold::text(Table::from_hex(3, "e").refusal()) << '\n';
+    std::cout << "e?: " << threshold::text(Table::from_hex(3, "e?").refusal()) << '\n';
+}
