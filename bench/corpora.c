@@ -6,17 +6,7 @@
      hard          eight inputs: 300 gates and 100 refusals after at least 4,000 corrections, and 100 gates climbed for many
 
    A set is in files of at most 65,536 bytes, as the report takes them: SET-0.bin, SET-1.bin and so on. */
-#include "machine.h"
-
-static uint64_t state;
-
-/* splitmix64 */
-static int below(int limit) {
-    uint64_t z = (state += 0x9e3779b97f4a7c15u);
-    z = (z ^ z >> 30) * 0xbf58476d1ce4e5b9u;
-    z = (z ^ z >> 27) * 0x94d049bb133111ebu;
-    return (int)((z ^ z >> 31) % (uint64_t)limit);
-}
+#include "tables.h"
 
 /* ---- files ---- */
 
@@ -54,46 +44,6 @@ static void add(const Job *j) {
 
 /* ---- tables ---- */
 
-static void clear(Job *j, int n) {
-    memset(j->table, 0, sizeof j->table);
-    j->n = n;
-    j->rows = 1 << n;
-}
-
-static void turn(Job *j, int row) { j->table[row >> 6] ^= (uint64_t)1 << (row & 63); }
-
-static int sum_at(int n, const int *weights, int row) {
-    int sum = 0;
-    for (int i = 0; i < n; i++) sum += row >> i & 1 ? weights[i] : 0;
-    return sum;
-}
-
-static void threshold(Job *j, int n, const int *weights, int t) {
-    clear(j, n);
-    for (int r = 0; r < j->rows; r++)
-        if (sum_at(n, weights, r) >= t) turn(j, r);
-}
-
-/* The rows above some random ones of the middle heights, with random inputs turned. */
-static void unate(Job *j, int n) {
-    int least[24], count = 3 + below(n * 2), turned = below(1 << n);
-    clear(j, n);
-    for (int i = 0; i < count; i++)
-        do least[i] = below(1 << n); while (abs(__builtin_popcount((unsigned)least[i]) - n / 2) > 1);
-    for (int r = 0; r < j->rows; r++)
-        for (int i = 0; i < count; i++)
-            if ((r & least[i]) == least[i]) { turn(j, r ^ turned); break; }
-}
-
-static int uses_all_inputs(const Job *j) {
-    for (int i = 0; i < j->n; i++) {
-        int r = 0;
-        while (r < j->rows && value(j, r) == value(j, r ^ 1 << i)) r++;
-        if (r == j->rows) return 0;
-    }
-    return 1;
-}
-
 /* A random gate of eight inputs; its T. */
 static int random_gate(Job *j, int *weights) {
     int limit = 16 + below(48);
@@ -105,11 +55,6 @@ static int random_gate(Job *j, int *weights) {
     t += below(2);
     threshold(j, 8, weights, t);
     return t;
-}
-
-static void decide(Job *j) {
-    fresh(j);
-    if (j->stage == OPEN) carry_on(j, CALL_BUDGET);
 }
 
 /* ---- sets ---- */
@@ -126,14 +71,10 @@ static void all4(void) {
 }
 
 static void gates(int n, uint64_t seed) {
-    static const int LIMITS[5] = {3, 5, 8, 12, 20};
     static Job j;
     open_set("thr", n, seed + (uint64_t)n);
     while (records < 5000) {
-        int weights[8], limit = LIMITS[below(5)];
-        for (int i = 0; i < n; i++) weights[i] = below(2 * limit + 1) - limit;
-        int t = sum_at(n, weights, below(1 << n));
-        threshold(&j, n, weights, t + below(2));
+        small_gate(&j, n);
         add(&j);
     }
     close_set();
@@ -143,10 +84,7 @@ static void refusals(int n, uint64_t seed) {
     static Job j;
     open_set("una", n, seed + 100 + (uint64_t)n);
     while (records < (n == 6 ? 700 : 650)) {
-        unate(&j, n);
-        if (!uses_all_inputs(&j)) continue;
-        decide(&j);
-        if (j.stage == LOOPED) add(&j);
+        if (unate_without_gate(&j, n)) add(&j);
     }
     close_set();
 }
