@@ -80,7 +80,7 @@ enum {
     THRESHOLD_REFUSED_NUMBERS = 104      /* not a weight for each input of the table, or not a count for each of its rows */
 };
 
-/* The text of the refusal that a call has returned; of 0 and above, and of numbers that no call returns, "no refusal". */
+/* The text of the refusal that a call has returned, which is the negative of its number; "no refusal" of every other number. */
 static inline const char *threshold_refusal_text(int64_t returned) {
     switch (returned) {
     case -THRESHOLD_REFUSED_ENDS_EARLY: return "the bytes end early";

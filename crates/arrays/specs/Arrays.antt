@@ -22,7 +22,7 @@ use Rattle.results.specs.Result.{Returned}
 abbrev pub weightsOf : Gate → List ℤ
 weightsOf g = take (g .n) (g .weights)
 
--- a gate whose weights are given in an array of so many: 12
+-- a gate whose weights go into an array of so many: 12
 abbrev pub fittedGate : ℕ → Gate → Answered Gate
 fittedGate room g = checked (tooShort room (weightsOf g) ∷ []) (answered g)
 
@@ -31,9 +31,9 @@ abbrev pub thresholdAfter : ℤ → Answered Gate → ℤ
 thresholdAfter held (answered g) = g .threshold
 thresholdAfter held (refused n) = held
 
--- a call that gives the numbers of a gate has come to this: what it returns, the lent array, and the lent threshold, before and after it
-abbrev pub GateGiven : Answered Gate → (old : List ℤ) (held : ℤ) → ℤ → (new : List ℤ) (threshold : ℤ) → Type 0
-GateGiven a old held r new threshold = Returned (andThen a (λ g. answered (weightsOf g))) old r new × (threshold ≡ thresholdAfter held a)
+-- a call that puts the numbers of a gate into what is lent has come to this: what it returns, the lent array, and the lent threshold, before and after it
+abbrev pub GatePut : Answered Gate → (old : List ℤ) (held : ℤ) → ℤ → (new : List ℤ) (threshold : ℤ) → Type 0
+GatePut a old held r new threshold = Returned (andThen a (λ g. answered (weightsOf g))) old r new × (threshold ≡ thresholdAfter held a)
 
 -- the counts of a witness, of the rows of its table
 abbrev pub countsOf : Table → Witness → List ℕ
@@ -49,7 +49,7 @@ otherCount xs m = rule 104 (not (eqb (length xs) m))
 abbrev pub gateWith : Table → List ℤ → ℤ → Gate
 gateWith t ws threshold = record { n = t .n; weights = padded 8 (pos 0) ws; threshold = threshold }
 
--- its record: 104, 7, 12
+-- its record, of a table that keeps its rules: 104, 7, 12
 abbrev pub fromGate : Table → List ℤ → ℤ → ℕ → Answered (List ℕ)
 fromGate t ws threshold room = checked (otherCount ws (t .n) ∷ []) (writeRecord (ofGate t (gateWith t ws threshold)) room)
 
@@ -57,6 +57,6 @@ fromGate t ws threshold room = checked (otherCount ws (t .n) ∷ []) (writeRecor
 abbrev pub witnessWith : List ℕ → Witness
 witnessWith cs = record { counts = padded 256 0 cs }
 
--- its record with a table: 104, 8, 12
+-- its record with a table that keeps its rules: 104, 8, 12
 abbrev pub fromWitness : Table → List ℕ → ℕ → Answered (List ℕ)
 fromWitness t cs room = checked (otherCount cs (rows t) ∷ []) (writeRecord (ofWitness t (witnessWith cs)) room)

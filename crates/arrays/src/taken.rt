@@ -8,12 +8,12 @@ ghost use Prim.Native.Nat.{_≤_};
 ghost use lib.ListN.{length};
 ghost use Rattle.writers.specs.Calls.{fitted};
 ghost use Rattle.results.specs.Result.{Returned};
-ghost use Rattle.arrays.specs.Arrays.{fittedGate, GateGiven, countsOf};
+ghost use Rattle.arrays.specs.Arrays.{fittedGate, GatePut, countsOf};
 
 // Writes the weights of a gate's inputs and sets the threshold. Returns n, or the refusal: 12.
 pub fn put_weights(gate: Gate, weights: &mut [i32], threshold: &mut i32) -> i64
     requires { ⌜ gate .n ≤ 8 ⌝ }
-    ensures { λ r. ⌜ GateGiven (fittedGate (length (now (weights .entry))) gate) (now (weights .entry)) (now (threshold .entry)) r (now (weights .exit)) (now (threshold .exit)) ⌝ }
+    ensures { λ r. ⌜ GatePut (fittedGate (length (now (weights .entry))) gate) (now (weights .entry)) (now (threshold .entry)) r (now (weights .exit)) (now (threshold .exit)) ⌝ }
 {
     let n = gate.n as usize;
     if weights.len() < n {
@@ -25,8 +25,8 @@ pub fn put_weights(gate: Gate, weights: &mut [i32], threshold: &mut i32) -> i64
         weights[place] = own[place];
         place = place + 1;
     }
-    let held = gate.threshold;
-    *threshold = held;
+    let t = gate.threshold;
+    *threshold = t;
     n as i64
 }
 

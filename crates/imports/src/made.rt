@@ -1,4 +1,4 @@
-// A table that was made of rows, a byte of eight of them at a time, and its record.
+// What is made of rows: the bits of a byte that are rows of a table, and the record of the table.
 use results::result::written_length;
 use table::table::row_count;
 use types::table::Table;

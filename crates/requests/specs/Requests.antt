@@ -1,5 +1,5 @@
--- The calls that give the numbers of a gate or a witness, make a record of numbers, or make a table's fresh job (docs/FORMAT.md). No
--- document has these calls. Each goes by what reading gives first, then `otherKind`, then its own numbers. Definitions only. Assumes nothing.
+-- The calls that take the numbers of a gate or a witness out of a record, make a record of numbers, make a table's fresh job, or tell how
+-- far a job has come (docs/FORMAT.md, "Calls"). No document has these calls. Each goes by what reading gives first, then `otherKind`, then its own numbers. Definitions only. Assumes nothing.
 use mathlib.Core.List.{List}
 use Prim.Native.Nat.{ℕ}
 use lib.IntN.{ℤ}
@@ -12,13 +12,13 @@ use Rattle.outcome.specs.Outcome.{outcomeWritten}
 use Rattle.arrays.specs.Arrays.{fittedGate, fromGate, fromWitness}
 use Rattle.requests.specs.Taken.{tableRead, gateRead, countsRead, jobRead}
 
--- kind 2, the gate whose numbers are given: 12
-abbrev pub gateGiven : List ℕ → ℕ → Answered Gate
-gateGiven s room = andThen (gateRead s) (fittedGate room)
+-- kind 2, the gate whose numbers are taken: 12
+abbrev pub gateTaken : List ℕ → ℕ → Answered Gate
+gateTaken s room = andThen (gateRead s) (fittedGate room)
 
 -- kind 3, the count of each row: 12
-abbrev pub countsGiven : List ℕ → ℕ → Answered (List ℕ)
-countsGiven s room = andThen (countsRead s) (fitted room)
+abbrev pub countsTaken : List ℕ → ℕ → Answered (List ℕ)
+countsTaken s room = andThen (countsRead s) (fitted room)
 
 -- kind 1 with the numbers of a gate, as kind 2: 104, 7, 12
 abbrev pub gateRecord : List ℕ → List ℤ → ℤ → ℕ → Answered (List ℕ)

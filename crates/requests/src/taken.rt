@@ -6,13 +6,13 @@ use results::result::not_taken;
 use types::kind::Kind;
 ghost use lib.ListN.{length};
 ghost use Rattle.results.specs.Result.{Returned};
-ghost use Rattle.arrays.specs.Arrays.{GateGiven};
-ghost use Rattle.requests.specs.Requests.{gateGiven, countsGiven};
+ghost use Rattle.arrays.specs.Arrays.{GatePut};
+ghost use Rattle.requests.specs.Requests.{gateTaken, countsTaken};
 
 // Writes the weights of a kind 2 record's gate and sets the threshold. Returns n. Refusals: 1 to 9 as the record is read, 100 for another
 // kind, 12.
 pub fn gate_numbers(bytes: &[u8], weights: &mut [i32], threshold: &mut i32) -> i64
-    ensures { λ r. ⌜ GateGiven (gateGiven (now (bytes .entry)) (length (now (weights .entry)))) (now (weights .entry)) (now (threshold .entry)) r (now (weights .exit)) (now (threshold .exit)) ⌝ }
+    ensures { λ r. ⌜ GatePut (gateTaken (now (bytes .entry)) (length (now (weights .entry)))) (now (weights .entry)) (now (threshold .entry)) r (now (weights .exit)) (now (threshold .exit)) ⌝ }
 {
     let given = read(bytes);
     let kind = given.kind;
@@ -25,7 +25,7 @@ pub fn gate_numbers(bytes: &[u8], weights: &mut [i32], threshold: &mut i32) -> i
 // Writes the count of each row of a kind 3 record's witness. Returns the number of rows. Refusals: 1 to 9 as the record is read, 100 for
 // another kind, 12.
 pub fn witness_numbers(bytes: &[u8], counts: &mut [u32]) -> i64
-    ensures { λ r. ⌜ Returned (countsGiven (now (bytes .entry)) (length (now (counts .entry)))) (now (counts .entry)) r (now (counts .exit)) ⌝ }
+    ensures { λ r. ⌜ Returned (countsTaken (now (bytes .entry)) (length (now (counts .entry)))) (now (counts .entry)) r (now (counts .exit)) ⌝ }
 {
     let given = read(bytes);
     let kind = given.kind;

@@ -3,8 +3,9 @@
 use mathlib.Core.Bool.{Bool, true, not, _||_}
 use mathlib.Core.List.{List, _++_}
 use Prim.Native.Nat.{ℕ, _+_, _-_, _/_, _%_, _^_}
-use lib.Dec.{eqb, ltb}
+use lib.Dec.{ltb}
 use lib.ListN.{length, getD, drop, replicate}
+use Rattle.numbers.specs.Packed.{bitIn}
 use Rattle.numbers.specs.Tests.{allAtMost}
 use Rattle.types.specs.declared.table.Table.{Table}
 use Rattle.function.specs.Function.{Function}
@@ -22,7 +23,7 @@ rows t = rowsOf (t .n)
 
 -- row r's bit: bit r mod 8 of byte r div 8, lowest bit first
 unfoldable pub bitAt : List ℕ → ℕ → Bool
-bitAt bytes r = eqb (getD bytes (r / 8) 0 / 2 ^ (r % 8) % 2) 1
+bitAt bytes r = bitIn (getD bytes (r / 8) 0) (r % 8)
 
 -- the table's value on row r
 abbrev pub value : Table → ℕ → Bool

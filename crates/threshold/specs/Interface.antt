@@ -1,7 +1,7 @@
 -- The calls of the C interface: what each comes to, over the bytes of a record (document 01, "Records"), its numbers, and the room of the
 -- lent buffer. Each goes by what reading gives first, then `otherKind` for a kind that it does not take, then its own numbers. The calls from
--- hex digits and words stand in `imports/specs/Imports.antt`, those on numbers and fresh jobs in `requests/specs/Requests.antt`. Definitions
--- only. Assumes nothing.
+-- hex digits and words stand in `imports/specs/Imports.antt`, those on numbers, on fresh jobs and on how far a job has come in
+-- `requests/specs/Requests.antt`. Definitions only. Assumes nothing.
 use mathlib.Core.List.{List}
 use Prim.Native.Nat.{ℕ}
 use Rattle.table.specs.Inputs.{kindsOf}

@@ -5,14 +5,14 @@ use requests::taken::gate_numbers;
 use requests::taken::witness_numbers;
 ghost use lib.ListN.{length};
 ghost use Rattle.results.specs.Result.{Returned};
-ghost use Rattle.arrays.specs.Arrays.{GateGiven};
-ghost use Rattle.requests.specs.Requests.{gateGiven, countsGiven, gateRecord, witnessRecord};
+ghost use Rattle.arrays.specs.Arrays.{GatePut};
+ghost use Rattle.requests.specs.Requests.{gateTaken, countsTaken, gateRecord, witnessRecord};
 
 // Writes the weights of a kind 2 record's gate, from input 1 on, and sets `threshold` to T. Returns n. Refusals: 1 to 9 as the record is read,
 // 100 for another kind, 12.
 #[no_mangle]
 pub extern "C" fn threshold_gate(bytes: &[u8], weights: &mut [i32], threshold: &mut i32) -> i64
-    ensures { λ r. ⌜ GateGiven (gateGiven (now (bytes .entry)) (length (now (weights .entry)))) (now (weights .entry)) (now (threshold .entry)) r (now (weights .exit)) (now (threshold .exit)) ⌝ }
+    ensures { λ r. ⌜ GatePut (gateTaken (now (bytes .entry)) (length (now (weights .entry)))) (now (weights .entry)) (now (threshold .entry)) r (now (weights .exit)) (now (threshold .exit)) ⌝ }
 {
     gate_numbers(bytes, weights, threshold)
 }
@@ -21,7 +21,7 @@ pub extern "C" fn threshold_gate(bytes: &[u8], weights: &mut [i32], threshold: &
 // 100 for another kind, 12.
 #[no_mangle]
 pub extern "C" fn threshold_witness(bytes: &[u8], counts: &mut [u32]) -> i64
-    ensures { λ r. ⌜ Returned (countsGiven (now (bytes .entry)) (length (now (counts .entry)))) (now (counts .entry)) r (now (counts .exit)) ⌝ }
+    ensures { λ r. ⌜ Returned (countsTaken (now (bytes .entry)) (length (now (counts .entry)))) (now (counts .entry)) r (now (counts .exit)) ⌝ }
 {
     witness_numbers(bytes, counts)
 }

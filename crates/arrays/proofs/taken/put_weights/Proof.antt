@@ -14,7 +14,7 @@ use Rattle.numbers.proofs.Int.{back}
 use Rattle.numbers.proofs.Widths.{size-fits}
 use Rattle.numbers.proofs.TabulateLaws.{filled-none, filled-more}
 use Rattle.arrays.proofs.CopyLaws.{copied, copied-written}
-use Rattle.arrays.proofs.GivenLaws.{given-short, given-whole}
+use Rattle.arrays.proofs.PutLaws.{put-short, put-whole}
 use Rattle.arrays.proofs.taken.put_weights.Statement.{statement}
 use Rattle.arrays.proofs.taken.put_weights.Tie as tie
 
@@ -39,7 +39,7 @@ start c = c .before .before .before .before
 returns : tie.Need-returns Inv-loop μ-loop
 returns c =
     let s = c .before .before .before in
-    given-short (s .args .gate) (s .args .weights .now) (s .args .threshold .now) (long s) (c .before .if1 .taken)
+    put-short (s .args .gate) (s .args .weights .now) (s .args .threshold .now) (long s) (c .before .if1 .taken)
     (back w64 (c .refusal .ok) ∙ c .refusal .ensures)
 
 loop-holds : tie.Need-loop-holds Inv-loop μ-loop
@@ -77,7 +77,7 @@ returns-2 c =
     ∙ ap (copied (pos 0) (a .gate .weights) (a .weights .now)) all
     ∙ copied-written (pos 0) (a .gate .weights) (a .weights .now) (a .gate .n) (omega (arith, size s, s .pre)) in
     let held : toZ w32 (ofZ w32 (a .gate .threshold)) ≡ a .gate .threshold = search (needs, c .struct-told .given) in
-    let ((r, b), t) = given-whole (a .gate) (a .weights .now) (a .threshold .now) (long s) (at .before .before .if1 .left) stands in
+    let ((r, b), t) = put-whole (a .gate) (a .weights .now) (a .threshold .now) (long s) (at .before .before .if1 .left) stands in
     ((value ∙ r, b), held ∙ t)
 
 pub put-weights-spec : {M : Type 1} → statement M

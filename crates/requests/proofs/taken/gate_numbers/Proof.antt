@@ -10,7 +10,7 @@ use Rattle.cell.specs.Refusal.{Answered}
 use Rattle.codec.specs.Kind.{gates}
 use Rattle.records.specs.declared.read.Read.{Read}
 use Rattle.arrays.specs.Arrays.{fittedGate}
-use Rattle.arrays.proofs.GivenLaws.{given-as}
+use Rattle.arrays.proofs.PutLaws.{put-as}
 use Rattle.requests.proofs.TakenLaws.{not-of, of-family, gate-few-read}
 use Rattle.requests.proofs.taken.gate_numbers.Statement.{statement}
 use Rattle.requests.proofs.taken.gate_numbers.Tie as tie
@@ -29,7 +29,7 @@ returns c =
     let s = keys .before .before .before in
     let a = s .args in
     let other = not-of (a .bytes .now) (keys .before .read .ensures) gates part (after s) (keys .match .keys2) in
-    given-as (a .weights .now) (a .threshold .now) other ((back w64 (c .not-taken .ok) ∙ c .not-taken .ensures, refl), refl)
+    put-as (a .weights .now) (a .threshold .now) other ((back w64 (c .not-taken .ok) ∙ c .not-taken .ensures, refl), refl)
 
 -- a gate
 put-weights-requires : tie.Need-put-weights-requires
@@ -48,7 +48,7 @@ returns-2 c =
     let a = s .args in
     let whole = of-family (a .bytes .now) (given .read .ensures) gates part (after s) (told .enum-told .given .1) in
     let ((r, b), t) = wrote .put-weights .ensures in
-    given-as (a .weights .now) (a .threshold .now) whole ((back w64 (wrote .put-weights .ok) ∙ r, b), t)
+    put-as (a .weights .now) (a .threshold .now) whole ((back w64 (wrote .put-weights .ok) ∙ r, b), t)
 
 pub gate-numbers-spec : {M : Type 1} → statement M
 gate-numbers-spec =
