@@ -143,6 +143,12 @@ public:
     Bytes record() const & noexcept { return Bytes(bytes_.data(), length_); }
     Bytes record() const && = delete;
 
+    // Two of them are equal if their bytes are.
+    friend bool operator==(const Record &one, const Record &other) noexcept {
+        return one.length_ == other.length_ && std::equal(one.bytes_.begin(), one.bytes_.begin() + one.length_, other.bytes_.begin());
+    }
+    friend bool operator!=(const Record &one, const Record &other) noexcept { return !(one == other); }
+
     // The number of inputs, n, and of rows, 2^n.
     std::uint32_t inputs() const noexcept { return bytes_[1]; }
     std::uint32_t row_count() const noexcept { return std::uint32_t{1} << inputs(); }
@@ -245,7 +251,7 @@ public:
         return from_words(static_cast<std::uint32_t>(inputs), words.first, count);
     }
 
-    // The value on a row. Refusals: row.
+    // The value on a row, behind `*`: as it stands the result says whether there is one. Refusals: row.
     Result<bool> value(std::uint32_t row) const noexcept { return value_on(row); }
 
     // The kind of each input.
@@ -325,7 +331,7 @@ public:
     // Whether the gate has the table's value on every row: true of a verdict's gate.
     bool check() const noexcept { return checks(); }
 
-    // The gate's value on a row. Refusals: row.
+    // The gate's value on a row, behind `*`. Refusals: row.
     Result<bool> value(std::uint32_t row) const noexcept { return value_on(row); }
 
 private:
