@@ -86,6 +86,10 @@ int main() {
         carry_on(*job);
     }
 
+    // ABC repeats the rows of a table under six inputs over the word, and kitty does not: both are the same table.
+    const auto repeated = Table::of(TruthTable{3, {0xe8e8e8e8e8e8e8e8}});
+    std::cout << "majority, repeated over a word: " << (repeated && *repeated == *majority ? "the same table\n" : "another table\n");
+
     print("xor", threshold::decide(TruthTable{2, {0x6}}));
     print("nine variables", threshold::decide(TruthTable{9, std::vector<std::uint64_t>(8)}));
     print("too few words", threshold::decide(8, words, 3));
