@@ -1,8 +1,9 @@
 //! Certificates from anyone, as text: `e8: 2 3 3 >= 4`, `e8: 2 x1 + 3 x2 + 3 x3 >= 4`, `f888: 3 12 = 5 10`. An error is in words.
 
-use crate::columns::{self, Rows};
+use crate::columns::{self, Side};
 use crate::{numbers, written};
 use std::collections::BTreeMap;
+use std::num::IntErrorKind;
 use threshold::{Gate, Refusal, Table, Witness};
 
 /// A table, and what is claimed of it. Whether that holds is not known.
@@ -11,7 +12,7 @@ pub enum Certificate {
     /// A gate.
     Gate(Gate),
     /// Two lists of rows: those that are to be true, and those that are to be false.
-    Lists(Table, [Rows; 2]),
+    Lists(Table, [Side; 2]),
 }
 
 impl Certificate {
@@ -21,13 +22,14 @@ impl Certificate {
         };
         let table = written::table(table.trim(), None)?;
         let claim = claim.trim();
-        let claim = claim.strip_prefix("no gate").or_else(|| claim.strip_prefix("gate")).unwrap_or(claim);
         if let Some((weights, threshold)) = claim.split_once(">=") {
+            let weights = weights.strip_prefix("gate").unwrap_or(weights);
             return gate(&table, weights.trim(), threshold.trim()).map(Certificate::Gate);
         }
         let Some((trues, falses)) = claim.split_once('=') else {
             return Err("a certificate has >= if it is a gate, or = if it is a witness".to_string());
         };
+        let trues = trues.strip_prefix("no gate").unwrap_or(trues);
         Ok(Certificate::Lists(table.clone(), [rows(&table, trues)?, rows(&table, falses)?]))
     }
 
@@ -44,7 +46,7 @@ impl Certificate {
 }
 
 /// The first row that stands on a wrong side, in words.
-pub fn misplaced(table: &Table, sides: &[Rows; 2]) -> Option<String> {
+pub fn misplaced(table: &Table, sides: &[Side; 2]) -> Option<String> {
     let wrong = |value: bool| sides[usize::from(!value)].iter().map(|pair| pair.0).find(|&row| table.value(row) != Ok(value));
     let told = |row: u32, side: &str, value: u32| {
         format!("row {row} ({}) stands {side} the =, and the table is {value} there", columns::described(row, table.inputs()))
@@ -53,7 +55,7 @@ pub fn misplaced(table: &Table, sides: &[Rows; 2]) -> Option<String> {
 }
 
 /// The witness of two lists without a misplaced row.
-pub fn witness(table: &Table, sides: &[Rows; 2]) -> Result<Witness, String> {
+pub fn witness(table: &Table, sides: &[Side; 2]) -> Result<Witness, String> {
     Witness::new(table, &sides.concat()).map_err(|refusal| refusal.to_string())
 }
 
@@ -64,7 +66,8 @@ fn gate(table: &Table, weights: &str, threshold: &str) -> Result<Gate, String> {
         sum if sum.contains('x') => terms(sum, inputs)?,
         list => list.split_whitespace().map(number).collect::<Result<_, _>>()?,
     };
-    Gate::new(table, &weights, number(threshold)?).map_err(|refusal| match refusal {
+    let weights: Vec<i32> = weights.into_iter().map(clamped).collect();
+    Gate::new(table, &weights, clamped(number(threshold)?)).map_err(|refusal| match refusal {
         Refusal::Numbers => {
             format!("{} for a table of {}", numbers::of(weights.len() as u64, "weight"), numbers::of(inputs.into(), "input"))
         }
@@ -72,39 +75,48 @@ fn gate(table: &Table, weights: &str, threshold: &str) -> Result<Gate, String> {
     })
 }
 
-/// A number, which the library may still refuse: one that is past its range is told as past the gate's.
-fn number(text: &str) -> Result<i32, String> {
-    let number: i64 = text.parse().map_err(|_| format!("{text:?} is not a number"))?;
-    Ok(number.clamp(i32::MIN.into(), i32::MAX.into()) as i32)
+/// A number of a certificate, in a type that has room for any sum of them.
+fn number(text: &str) -> Result<i128, String> {
+    let number: Result<i64, _> = text.parse();
+    number.map(i128::from).map_err(|error| match error.kind() {
+        IntErrorKind::PosOverflow | IntErrorKind::NegOverflow => format!("{text:?} is too large"),
+        _ => format!("{text:?} is not a number"),
+    })
+}
+
+/// A weight or threshold for the library. It refuses all that is beyond 1,000,000, and so what is past this type too.
+fn clamped(number: i128) -> i32 {
+    number.clamp(i32::MIN.into(), i32::MAX.into()) as i32
 }
 
 /// The weights of a sum like `2 x1 + 3 x2 - x3`; an input that is named twice has both.
-fn terms(text: &str, inputs: u32) -> Result<Vec<i32>, String> {
-    let mut weights = vec![0i32; inputs as usize];
+fn terms(text: &str, inputs: u32) -> Result<Vec<i128>, String> {
+    let mut weights = vec![0i128; inputs as usize];
     let signed = text.replace('-', "+-");
     for text_of_term in signed.strip_prefix('+').unwrap_or(&signed).split('+') {
-        let (weight, input) = term(text_of_term.trim()).ok_or_else(|| format!("{text:?} is not a sum like 2 x1 + 3 x2 - x3"))?;
+        let term = term(text_of_term.trim());
+        let (sign, size, input) = term.ok_or_else(|| format!("{text:?} is not a sum like 2 x1 + 3 x2 - x3"))?;
         let place = weights.get_mut(input.wrapping_sub(1));
         let place = place.ok_or_else(|| format!("x{input} is no input of the table, which has {inputs}"))?;
-        *place = place.saturating_add(weight);
+        *place += sign * number(size)?;
     }
     Ok(weights)
 }
 
-/// The weight and the input of a term like `2 x1`, `2*x1`, `-x1`.
-fn term(text: &str) -> Option<(i32, usize)> {
+/// The sign, the size and the input of a term like `2 x1`, `2*x1`, `-x1`.
+fn term(text: &str) -> Option<(i128, &str, usize)> {
     let (sign, rest) = text.strip_prefix('-').map_or((1, text), |rest| (-1, rest));
     let (size, input) = rest.split_once('x')?;
     let size = size.trim();
     let size = match size.strip_suffix('*').unwrap_or(size).trim_end() {
-        "" => 1,
-        digits => digits.parse::<u64>().ok()?.min(i32::MAX as u64) as i32,
+        "" => "1",
+        digits => Some(digits).filter(|digits| digits.bytes().all(|byte| byte.is_ascii_digit()))?,
     };
-    Some((sign * size, input.parse().ok()?))
+    Some((sign, size, input.parse().ok()?))
 }
 
 /// The rows of one side, each as often as it counts: `3 12`, or `2*3` for row 3 twice.
-fn rows(table: &Table, text: &str) -> Result<Rows, String> {
+fn rows(table: &Table, text: &str) -> Result<Side, String> {
     let mut counts = BTreeMap::new();
     for word in text.split_whitespace() {
         let (count, row) = word.split_once('*').unwrap_or(("1", word));
@@ -144,6 +156,18 @@ mod tests {
     }
 
     #[test]
+    fn terms_of_an_input_are_added_up_exactly() {
+        assert_eq!(weights("e8: 4000000000 x1 - 3999999999 x1 + x2 + x3 >= 2"), (vec![1, 1, 1], 2));
+        for text in [
+            "e8: 4000000000 x1 - 3000000000 x1 + x1 + x2 + x3 >= 2",
+            "e8: 3000000000 x1 - 2147483646 x1 + x2 + x3 >= 2",
+            "e8: 9223372036854775807 x1 + 9223372036854775807 x1 + x2 + x3 >= 2",
+        ] {
+            assert!(Certificate::read(text).unwrap_err().starts_with("refused by 7: "), "{text}");
+        }
+    }
+
+    #[test]
     fn witnesses_are_read_as_rows() {
         let lists = |text: &str| match Certificate::read(text) {
             Ok(Certificate::Lists(_, sides)) => sides,
@@ -164,6 +188,11 @@ mod tests {
             ("e8: 1 1 1 >= ", "\"\" is not a number"),
             ("e8: 1 1 y >= 2", "\"y\" is not a number"),
             ("e8: 1 1 99999999999 >= 2", "refused by 7: a weight or the threshold is beyond 1,000,000 either way"),
+            ("e8: 1 1 1 >= 99999999999999999999", "\"99999999999999999999\" is too large"),
+            ("e8: x1 - 99999999999999999999 x2 >= 2", "\"99999999999999999999\" is too large"),
+            ("e8: no gate 1 1 1 >= 2", "\"no\" is not a number"),
+            ("f888: gate 3 12 = 5 10", "\"gate\" is no row, and no count and row like 2*3"),
+            ("e8/3/3: 1 1 1 >= 2", "\"e8/3/3\": a table has one / at most"),
             ("e8: x1 x2 >= 2", "\"x1 x2\" is not a sum like 2 x1 + 3 x2 - x3"),
             ("e8: x1 + -2 x2 >= 2", "\"x1 + -2 x2\" is not a sum like 2 x1 + 3 x2 - x3"),
             ("e8: x1 + 2 >= 2", "\"x1 + 2\" is not a sum like 2 x1 + 3 x2 - x3"),

@@ -1,11 +1,11 @@
 //! Certificates from anyone, checked by the library, and where one fails, in words.
 
 use crate::certificate::{misplaced, witness, Certificate};
-use crate::columns::{self, Rows};
-use crate::pack::content;
+use crate::columns::{self, Side};
 use crate::trouble::{self, say, Trouble};
-use crate::{files, numbers, words};
+use crate::{files, numbers, words, written};
 use std::io::{BufRead, BufReader, BufWriter, IsTerminal, Read, Write};
+use std::path::Path;
 use threshold::{Gate, Table};
 
 /// Checks each certificate and tells it in words; where none is given, checks those of standard input, a line each.
@@ -19,15 +19,25 @@ pub fn check(certificates: &[String]) -> Result<u8, Trouble> {
     }
     let told = |text: &String| {
         let told = Certificate::read(text).and_then(|certificate| checked(&certificate));
-        told.map_err(|why| Trouble::Usage(format!("{text:?}: {why}")))
+        told.map_err(|why| Trouble::Usage(format!("{text:?}: {why}{}", hint(text))))
     };
     let told: Vec<(bool, Vec<String>)> = certificates.iter().map(told).collect::<Result<_, _>>()?;
-    let mut status = trouble::GATE;
+    let mut status = trouble::DONE;
     for (text, (holds, lines)) in certificates.iter().zip(&told) {
-        status = status.max(if *holds { trouble::GATE } else { trouble::NO_GATE });
+        status = status.max(if *holds { trouble::DONE } else { trouble::NO_GATE });
         say(words::indented(text.trim(), lines))?;
     }
     Ok(status)
+}
+
+/// How a file is checked, if this looks like one.
+fn hint(text: &str) -> &'static str {
+    let file = !text.contains(':') && (text == "-" || Path::new(text).exists());
+    if file {
+        "; a file is checked by threshold check <FILE"
+    } else {
+        ""
+    }
 }
 
 /// Checks a certificate a line, writes `holds` or `fails` before each, and tells and counts lines that are none.
@@ -36,7 +46,7 @@ fn check_lines(input: impl Read, output: &mut impl Write, errors: &mut impl Writ
     for (number, line) in (1..).zip(BufReader::new(input).split(b'\n')) {
         let line = line.map_err(Trouble::at("standard input"))?;
         let line = String::from_utf8_lossy(&line);
-        let Some(text) = content(&line) else { continue };
+        let Some(text) = written::content(&line) else { continue };
         match Certificate::read(text).and_then(|certificate| holds(&certificate)) {
             Ok(holds) => {
                 *if holds { &mut holding } else { &mut failing } += 1;
@@ -86,8 +96,11 @@ fn checked(certificate: &Certificate) -> Result<(bool, Vec<String>), String> {
 }
 
 fn gate_holds(gate: &Gate) -> Vec<String> {
-    let rows = numbers::of(1 << gate.inputs(), "row");
-    vec![format!("holds: the gate has the table's value on each of {rows}"), words::sums(gate)]
+    let rows = match 1 << gate.inputs() {
+        1 => "its one row".to_string(),
+        rows => format!("each of {}", numbers::of(rows, "row")),
+    };
+    vec![format!("holds: the gate has the table's value on {rows}"), words::sums(gate)]
 }
 
 fn gate_fails(gate: &Gate) -> Vec<String> {
@@ -107,14 +120,14 @@ fn gate_fails(gate: &Gate) -> Vec<String> {
 }
 
 /// A line, and the two lists.
-fn lines(first: &str, table: &Table, sides: &[Rows; 2]) -> Vec<String> {
+fn lines(first: &str, table: &Table, sides: &[Side; 2]) -> Vec<String> {
     let mut lines = vec![first.to_string()];
     lines.extend(columns::side_by_side(table.inputs(), sides));
     lines
 }
 
 /// The first total in which two lists differ.
-fn unbalanced(table: &Table, sides: &[Rows; 2]) -> String {
+fn unbalanced(table: &Table, sides: &[Side; 2]) -> String {
     let [trues, falses] = [0, 1].map(|side| columns::totals(table.inputs(), &sides[side]));
     let differs = (0..trues.len()).find(|&place| trues[place] != falses[place]);
     match differs {
@@ -144,6 +157,7 @@ mod tests {
         assert!(!holds);
         assert_eq!(lines[0], "does not hold: the gate differs from the table on 3 of 8 rows, the first is row 1");
         assert_eq!(lines[1], "row 1 (x1 = 1, x2 = 0, x3 = 0): the sum is 1, at least 1, and the table is 0");
+        assert_eq!(told("1/0: >= 0").1[0], "holds: the gate has the table's value on its one row");
         let (_, lines) = told("8: 1 1 >= 3");
         assert_eq!(lines[0], "does not hold: the gate differs from the table on 1 of 4 rows, which is row 3");
         assert_eq!(lines[1], "row 3 (x1 = 1, x2 = 1): the sum is 2, below 3, and the table is 1");
@@ -163,6 +177,12 @@ mod tests {
             assert!(!holds, "{text}");
             assert_eq!(lines[0], format!("does not hold: {why}"));
         }
+    }
+
+    #[test]
+    fn a_file_is_hinted_at() {
+        let hint = "; a file is checked by threshold check <FILE";
+        assert_eq!(["-", "/", "e8", "e8: 1"].map(self::hint), [hint, hint, "", ""]);
     }
 
     #[test]

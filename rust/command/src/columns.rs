@@ -1,7 +1,7 @@
 //! Rows of a table in columns.
 
-/// Pairs of a row and its count.
-pub type Rows = Vec<(u32, u32)>;
+/// One side of a witness: pairs of a row and its count.
+pub type Side = Vec<(u32, u32)>;
 
 /// Whether an input, from 1 on, is true in a row, as 1 or 0.
 fn place(row: u32, input: u32) -> u32 {
@@ -14,13 +14,13 @@ fn names(inputs: u32) -> impl Iterator<Item = String> {
 }
 
 /// How often each input is true in a list, each row taken as often as it counts; before them the number of rows.
-pub fn totals(inputs: u32, rows: &Rows) -> Vec<u64> {
+pub fn totals(inputs: u32, rows: &Side) -> Vec<u64> {
     let total = |part: &dyn Fn(u32) -> u32| rows.iter().map(|&(row, count)| u64::from(part(row)) * u64::from(count)).sum();
     std::iter::once(total(&|_| 1)).chain((1..=inputs).map(|input| total(&|row| place(row, input)))).collect()
 }
 
 /// The two lists of a witness, true rows and false rows, side by side, each with its totals below.
-pub fn side_by_side(inputs: u32, sides: &[Rows; 2]) -> Vec<String> {
+pub fn side_by_side(inputs: u32, sides: &[Side; 2]) -> Vec<String> {
     let height = sides.iter().map(Vec::len).max().unwrap_or(0);
     let [left, right] = ["true rows", "false rows"];
     let cells = sides.iter().map(|rows| list(inputs, rows, height)).collect::<Vec<_>>();
@@ -35,7 +35,7 @@ pub fn side_by_side(inputs: u32, sides: &[Rows; 2]) -> Vec<String> {
 }
 
 /// The cells of one list: a head, the rows, blank lines up to the height, the totals.
-fn list(inputs: u32, rows: &Rows, height: usize) -> Vec<Vec<String>> {
+fn list(inputs: u32, rows: &Side, height: usize) -> Vec<Vec<String>> {
     let head = ["row", "times"].map(String::from).into_iter().chain(names(inputs)).collect();
     let blank = vec![String::new(); inputs as usize + 2];
     let totals = totals(inputs, rows);

@@ -3,6 +3,7 @@
 use crate::known::Known;
 use crate::trouble::{self, say, Trouble};
 use crate::{files, words};
+use std::io::{self, Write};
 use threshold::{Table, Verdict};
 
 /// What is asked.
@@ -10,23 +11,31 @@ use threshold::{Table, Verdict};
 pub struct Asked {
     /// Tables, each by the name that its answer has.
     pub tables: Vec<(String, Table)>,
+    /// What is to be said of how they were read.
+    pub notes: Vec<String>,
     pub rows: bool,
     pub save: Option<String>,
     pub budget: u32,
 }
 
-/// Tells each verdict as soon as it is there, and saves their records, one after another.
+/// Tells each verdict as soon as it is there; or where they are to be saved, saves their records, one after another, and then tells them.
 pub fn decide(asked: &Asked) -> Result<u8, Trouble> {
-    let mut records = Vec::new();
-    let mut status = trouble::GATE;
-    for (title, table) in &asked.tables {
-        let known = Known::decided(table, asked.budget);
-        records.extend(known.record());
+    for note in &asked.notes {
+        let _ = writeln!(io::stderr(), "threshold: {note}");
+    }
+    let decided = asked.tables.iter().map(|(title, table)| (title, Known::decided(table, asked.budget)));
+    let Some(file) = &asked.save else { return tell(asked, decided) };
+    let decided: Vec<_> = decided.collect();
+    let records: Vec<&[u8]> = decided.iter().map(|(_, known)| known.record()).collect();
+    files::write(file, &records.concat())?;
+    tell(asked, decided.into_iter())
+}
+
+fn tell<'a>(asked: &Asked, decided: impl Iterator<Item = (&'a String, Known)>) -> Result<u8, Trouble> {
+    let mut status = trouble::DONE;
+    for (title, known) in decided {
         status = status.max(self::status(&known));
         say(words::verdict(title, &known, asked.rows, asked.save.as_deref()))?;
-    }
-    if let Some(file) = &asked.save {
-        files::write(file, &records)?;
     }
     Ok(status)
 }
@@ -34,7 +43,7 @@ pub fn decide(asked: &Asked) -> Result<u8, Trouble> {
 /// The status of a verdict. Of several the highest is the call's: 3 if one is open, or 1 if one has no gate, or 0.
 pub fn status(known: &Known) -> u8 {
     match known.verdict {
-        Verdict::Gate(_) => trouble::GATE,
+        Verdict::Gate(_) => trouble::DONE,
         Verdict::Witness(_) => trouble::NO_GATE,
         Verdict::Open(_) => trouble::OPEN,
     }

@@ -25,7 +25,7 @@ pub fn read(file: Option<&str>) -> Result<Vec<u8>, Trouble> {
     Ok(bytes)
 }
 
-/// Writes a file anew. What it held stays where writing fails: the bytes go to a file beside it, which then takes its name.
+/// Writes a file anew. What it held stays where writing fails: the bytes go to a file beside it, which then takes its name and mode.
 pub fn write(path: &str, bytes: &[u8]) -> Result<(), Trouble> {
     let written = match fs::metadata(path) {
         // A device or a pipe has no bytes to keep.
@@ -38,10 +38,22 @@ pub fn write(path: &str, bytes: &[u8]) -> Result<(), Trouble> {
 fn replace(path: &Path, bytes: &[u8]) -> io::Result<()> {
     let mut beside = path.as_os_str().to_owned();
     beside.push(".part");
-    let written = File::create(&beside).and_then(|mut file| file.write_all(bytes).and_then(|()| file.sync_all()));
-    let replaced = written.and_then(|()| fs::rename(&beside, path));
+    let replaced = write_as(path, Path::new(&beside), bytes).and_then(|()| fs::rename(&beside, path));
     if replaced.is_err() {
         let _ = fs::remove_file(&beside);
     }
     replaced
+}
+
+/// Writes a file with the mode of another, if that is there. One that must not be written must not be replaced either.
+fn write_as(other: &Path, path: &Path, bytes: &[u8]) -> io::Result<()> {
+    let mode = match File::options().write(true).open(other) {
+        Ok(file) => Some(file.metadata()?.permissions()),
+        Err(error) if error.kind() == io::ErrorKind::NotFound => None,
+        Err(error) => return Err(error),
+    };
+    let mut file = File::create(path)?;
+    mode.map_or(Ok(()), |mode| file.set_permissions(mode))?;
+    file.write_all(bytes)?;
+    file.sync_all()
 }

@@ -6,12 +6,13 @@ pub const TEXT: &str = "\
 threshold - whether one threshold gate can carry a Boolean function
 
   threshold TABLE..              the verdict on each table, in words
-  threshold on FILE              carries the jobs of a saved file on
+  threshold on FILE              carries the open jobs of a saved file on, and
+                                 saves what they come to there
   threshold check CERTIFICATE..  checks gates and witnesses, whoever made them
   threshold many [FILE]          a verdict for each line, on all cores
   threshold pack [FILE]          lines of text to records, which ./report reads
   threshold list [FILE]          records to lines of text
-Without a FILE, or where it is -, standard input is read. Try
+Without a FILE, or where it is -, many, pack and list read standard input. Try
   threshold e8 0x8000 -e 'x1 x2 + !x3'
 
 A verdict is a gate, which can be tried on every row; or a witness, after which
@@ -24,7 +25,8 @@ TABLE, of up to 8 inputs
                  8000 is the AND of four inputs. 1, 2, 4, 8, 16, 32 or 64 digits
                  are 2, 3, 4, 5, 6, 7 or 8 inputs
   2/1            hex digits and the number of inputs, for tables of 0 or 1 input
-  0b11101000     a binary digit for each row, the highest first (0b11 is hex)
+  0b11101000     a binary digit for each row, the highest first. 0b10 has the
+                 length of hex digits too, and is read so; 0b10/1 is binary
   -e EXPRESSION  of as many inputs as the highest that it names
 
 EXPRESSION, what binds tightest first
@@ -38,7 +40,8 @@ CERTIFICATE
   'e8: 2 3 3 >= 4'     a gate: a weight for each input, and T; or as a sum,
                        'e8: 2 x1 + 3 x2 + 3 x3 >= 4'
   'f888: 3 12 = 5 10'  a witness: true rows = false rows; 2*3 is row 3 twice
-Without one, certificates are read from standard input, one a line.
+Without one, certificates are read from standard input, one a line: those of a
+file by `threshold check <FILE`.
 
 OPTIONS for tables
   -n N           the number of inputs of every table of the call, 0 to 8

@@ -17,6 +17,6 @@ pub fn list(file: Option<&str>) -> Result<u8, Trouble> {
     say(text)?;
     match refused {
         Some(refused) => Err(Trouble::Failed(refused.text(files::name(file)))),
-        None => Ok(trouble::GATE),
+        None => Ok(trouble::DONE),
     }
 }

@@ -37,8 +37,8 @@ fn run() -> Result<u8, Trouble> {
     let arguments: Result<Vec<String>, _> = std::env::args_os().skip(1).map(|argument| argument.into_string()).collect();
     let arguments = arguments.map_err(|argument| Trouble::Usage(format!("{argument:?} is not UTF-8")))?;
     match Request::read(&arguments)? {
-        Request::Help => trouble::say(help::TEXT).map(|()| trouble::GATE),
-        Request::Version => trouble::say(help::VERSION).map(|()| trouble::GATE),
+        Request::Help => trouble::say(help::TEXT).map(|()| trouble::DONE),
+        Request::Version => trouble::say(help::VERSION).map(|()| trouble::DONE),
         Request::Decide(asked) => decide::decide(&asked),
         Request::On(asked) => on::carry_on(&asked),
         Request::Check(certificates) => check::check(&certificates),

@@ -4,6 +4,7 @@ use crate::known::Known;
 use crate::stream::{self, Item};
 use crate::trouble::{self, say, Trouble};
 use crate::{decide, files, words, written};
+use threshold::Verdict;
 
 /// What is asked.
 #[derive(Debug, PartialEq, Eq)]
@@ -13,7 +14,8 @@ pub struct Asked {
     pub budget: u32,
 }
 
-/// Carries each open job of a file on, decides its tables, and writes the file anew with what is known then. Gates and witnesses stay.
+/// Carries each open job of a file on, decides its tables, and writes the file anew with what is known then. Gates and witnesses stay. A
+/// file without an open job is refused and left as it is, since it may be anyone's.
 pub fn carry_on(asked: &Asked) -> Result<u8, Trouble> {
     let bytes = files::read(Some(&asked.file))?;
     let items: Result<Vec<Item>, _> = stream::items(&bytes).collect();
@@ -21,15 +23,24 @@ pub fn carry_on(asked: &Asked) -> Result<u8, Trouble> {
     if items.is_empty() {
         return Err(Trouble::Failed(format!("{}: no record is in it", asked.file)));
     }
+    if !items.iter().any(is_open) {
+        return Err(Trouble::Failed(format!("{0}: no open job is in it; threshold list {0} shows what is", asked.file)));
+    }
     let known: Vec<Known> = items.into_iter().map(|item| carried_on(item, asked.budget)).collect();
     let records: Vec<u8> = known.iter().flat_map(|known| known.record()).copied().collect();
-    files::write(&asked.file, &records)?;
-    let mut status = trouble::GATE;
+    if records != bytes {
+        files::write(&asked.file, &records)?;
+    }
+    let mut status = trouble::DONE;
     for known in &known {
         status = status.max(decide::status(known));
         say(words::verdict(&written::digits(&known.table()), known, asked.rows, Some(&asked.file)))?;
     }
     Ok(status)
+}
+
+fn is_open(item: &Item) -> bool {
+    matches!(item, Item::Known(Known { verdict: Verdict::Open(_), .. }))
 }
 
 fn carried_on(item: Item, budget: u32) -> Known {

@@ -11,7 +11,7 @@ pub enum Word {
 }
 
 /// The words of a call that has these flags, and these options with a value: `--jobs 2` or `--jobs=2`. After `--` every word stands alone.
-pub fn words(arguments: &[String], flags: &[&'static str], valued: &[&'static str]) -> Result<Vec<Word>, Trouble> {
+pub fn read(arguments: &[String], flags: &[&'static str], valued: &[&'static str]) -> Result<Vec<Word>, Trouble> {
     let mut words = Vec::new();
     let mut left = arguments.iter();
     while let Some(argument) = left.next() {
@@ -51,7 +51,7 @@ mod tests {
 
     fn read(arguments: &[&str]) -> Result<Vec<Word>, Trouble> {
         let arguments: Vec<String> = arguments.iter().map(|argument| argument.to_string()).collect();
-        words(&arguments, &["--rows"], &["-e", "--jobs"])
+        super::read(&arguments, &["--rows"], &["-e", "--jobs"])
     }
 
     #[test]

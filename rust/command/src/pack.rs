@@ -5,11 +5,6 @@ use crate::trouble::{self, say, Trouble};
 use crate::{files, written};
 use std::io::{self, IsTerminal};
 
-/// The text of a line, or nothing if it is blank or a comment.
-pub fn content(line: &str) -> Option<&str> {
-    Some(line.trim()).filter(|line| !line.is_empty() && !line.starts_with('#'))
-}
-
 /// The record of a line: of a table, or with a colon of a table and a certificate.
 fn record(line: &str) -> Result<Vec<u8>, String> {
     if line.contains(':') {
@@ -29,11 +24,11 @@ pub fn pack(file: Option<&str>) -> Result<u8, Trouble> {
     let text = String::from_utf8_lossy(&bytes);
     let mut records = Vec::new();
     for (number, line) in (1..).zip(text.lines()) {
-        if let Some(line) = content(line) {
+        if let Some(line) = written::content(line) {
             records.extend(record(line).map_err(|why| Trouble::Failed(format!("{name}, line {number}: {why}")))?);
         }
     }
-    say(records).map(|()| trouble::GATE)
+    say(records).map(|()| trouble::DONE)
 }
 
 #[cfg(test)]
@@ -48,10 +43,5 @@ mod tests {
         let records: Vec<u8> = lines.iter().flat_map(|line| record(line).unwrap()).collect();
         let listed: Vec<String> = stream::items(&records).map(|item| item.unwrap().text()).collect();
         assert_eq!(listed, lines);
-    }
-
-    #[test]
-    fn blank_lines_and_comments_are_left_out() {
-        assert_eq!(["", "  \r", "# e8", " e8\r"].map(content), [None, None, None, Some("e8")]);
     }
 }

@@ -1,7 +1,6 @@
 //! What a call asks for.
 
-use crate::expression::Expression;
-use crate::options::{number, words, Word};
+use crate::options::{self, number, Word};
 use crate::trouble::Trouble;
 use crate::{decide, many, on, written};
 use std::thread::available_parallelism;
@@ -29,12 +28,12 @@ impl Request {
         }
         match options.as_slice() {
             ["--version", ..] => Ok(Request::Version),
-            ["on", ..] => on(&arguments[1..]),
-            ["check", ..] => check(&arguments[1..]),
-            ["many", ..] => many(&arguments[1..]),
-            ["pack", ..] => file(&arguments[1..]).map(Request::Pack),
-            ["list", ..] => file(&arguments[1..]).map(Request::List),
-            _ => decide(arguments),
+            ["on", ..] => read_on(&arguments[1..]),
+            ["check", ..] => read_check(&arguments[1..]),
+            ["many", ..] => read_many(&arguments[1..]),
+            ["pack", ..] => read_file(&arguments[1..]).map(Request::Pack),
+            ["list", ..] => read_file(&arguments[1..]).map(Request::List),
+            _ => read_tables(arguments),
         }
     }
 }
@@ -43,9 +42,9 @@ fn budget(value: &str) -> Result<u32, Trouble> {
     number("--budget", value, 1, CAP)
 }
 
-fn decide(arguments: &[String]) -> Result<Request, Trouble> {
-    let words = words(arguments, &["--rows"], &["-n", "-e", "--save", "--budget"])?;
-    let mut asked = decide::Asked { tables: Vec::new(), rows: false, save: None, budget: CALL_BUDGET };
+fn read_tables(arguments: &[String]) -> Result<Request, Trouble> {
+    let words = options::read(arguments, &["--rows"], &["-n", "-e", "--save", "--budget"])?;
+    let mut asked = decide::Asked { tables: Vec::new(), notes: Vec::new(), rows: false, save: None, budget: CALL_BUDGET };
     let mut inputs = None;
     for word in &words {
         match word {
@@ -58,7 +57,10 @@ fn decide(arguments: &[String]) -> Result<Request, Trouble> {
     }
     for word in &words {
         match word {
-            Word::Alone(text) => asked.tables.push(digits(text, inputs)?),
+            Word::Alone(text) => {
+                asked.tables.push(digits(text, inputs)?);
+                asked.notes.extend(written::note(text, inputs));
+            }
             Word::Value("-e", text) => asked.tables.push(expression(text, inputs)?),
             _ => {}
         }
@@ -71,24 +73,20 @@ fn decide(arguments: &[String]) -> Result<Request, Trouble> {
 
 /// A table by its digits, and its name in the answer.
 fn digits(text: &str, inputs: Option<u32>) -> Result<(String, Table), Trouble> {
-    let hint = |why| match Expression::read(text) {
-        Ok(_) => format!("{why}; as an expression it stands after -e"),
-        Err(_) => why,
-    };
-    let table = written::table(text, inputs).map_err(|why| Trouble::Usage(hint(why)))?;
-    Ok((table.to_string(), table))
+    let table = written::table(text, inputs).map_err(|why| Trouble::Usage(written::hinted(text, why)))?;
+    Ok((written::digits(&table), table))
 }
 
 /// The table of an expression, and its name in the answer.
 fn expression(text: &str, inputs: Option<u32>) -> Result<(String, Table), Trouble> {
     let table = written::expression(text, inputs).map_err(Trouble::Usage)?;
-    Ok((format!("{table} ({text})"), table))
+    Ok((format!("{} ({text})", written::digits(&table)), table))
 }
 
-fn on(arguments: &[String]) -> Result<Request, Trouble> {
+fn read_on(arguments: &[String]) -> Result<Request, Trouble> {
     let mut asked = on::Asked { file: String::new(), rows: false, budget: CALL_BUDGET };
     let mut files = Vec::new();
-    for word in words(arguments, &["--rows"], &["--budget"])? {
+    for word in options::read(arguments, &["--rows"], &["--budget"])? {
         match word {
             Word::Flag(_) => asked.rows = true,
             Word::Value(_, value) => asked.budget = budget(&value)?,
@@ -99,19 +97,19 @@ fn on(arguments: &[String]) -> Result<Request, Trouble> {
     Ok(Request::On(asked))
 }
 
-fn check(arguments: &[String]) -> Result<Request, Trouble> {
+fn read_check(arguments: &[String]) -> Result<Request, Trouble> {
     let alone = |word| match word {
         Word::Alone(text) => text,
         other => unreachable!("{other:?}"),
     };
-    Ok(Request::Check(words(arguments, &[], &[])?.into_iter().map(alone).collect()))
+    Ok(Request::Check(options::read(arguments, &[], &[])?.into_iter().map(alone).collect()))
 }
 
-fn many(arguments: &[String]) -> Result<Request, Trouble> {
+fn read_many(arguments: &[String]) -> Result<Request, Trouble> {
     let cores = available_parallelism().map_or(1, |cores| cores.get() as u32);
     let mut asked = many::Asked { file: None, jobs: cores, json: false, budget: CALL_BUDGET };
     let mut files = Vec::new();
-    for word in words(arguments, &["--json"], &["--jobs", "--budget"])? {
+    for word in options::read(arguments, &["--json"], &["--jobs", "--budget"])? {
         match word {
             Word::Flag(_) => asked.json = true,
             Word::Value("--jobs", value) => asked.jobs = number("--jobs", &value, 1, 1024)?,
@@ -124,8 +122,8 @@ fn many(arguments: &[String]) -> Result<Request, Trouble> {
 }
 
 /// The file of a call that has no options.
-fn file(arguments: &[String]) -> Result<Option<String>, Trouble> {
-    let files = words(arguments, &[], &[])?;
+fn read_file(arguments: &[String]) -> Result<Option<String>, Trouble> {
+    let files = options::read(arguments, &[], &[])?;
     one(files.into_iter().filter_map(|word| if let Word::Alone(file) = word { Some(file) } else { None }).collect())
 }
 
@@ -160,6 +158,7 @@ mod tests {
     fn the_number_of_inputs_is_for_all_tables() {
         let Ok(Request::Decide(asked)) = read(&["2", "-n", "1", "-e", "x1"]) else { panic!() };
         assert!(asked.tables.iter().all(|(_, table)| table.inputs() == 1));
+        assert_eq!([&asked.tables[0].0, &asked.tables[1].0], ["2/1", "2/1 (x1)"]);
         assert!(matches!(read(&["e8", "-n", "9"]), Err(Trouble::Usage(_))));
     }
 
@@ -177,7 +176,7 @@ mod tests {
 
     #[test]
     fn an_expression_among_tables_is_told() {
-        let told = "\"x1 x2\" is no table: 'x' is not a hex digit; as an expression it stands after -e";
+        let told = "\"x1 x2\" is no table: 'x' is not a hex digit; as an expression it is asked by threshold -e";
         assert_eq!(read(&["x1 x2"]), Trouble::usage(told));
         assert_eq!(read(&["zz"]), Trouble::usage("\"zz\" is no table: 'z' is not a hex digit"));
     }

@@ -3,7 +3,7 @@
 use std::io::{self, Write};
 
 /// Every table has a gate, every certificate holds, or all was done.
-pub const GATE: u8 = 0;
+pub const DONE: u8 = 0;
 /// A table has no gate, or a certificate does not hold.
 pub const NO_GATE: u8 = 1;
 /// The command was called in a wrong way.

@@ -1,6 +1,6 @@
 //! Verdicts in words.
 
-use crate::columns::{self, Rows};
+use crate::columns::{self, Side};
 use crate::known::Known;
 use crate::{line, numbers};
 use threshold::{Gate, InputKind, SavedJob, Table, Verdict, Witness, CAP};
@@ -56,7 +56,7 @@ fn witness_lines(witness: &Witness) -> Vec<String> {
 }
 
 /// Why two lists that balance leave no gate.
-pub fn meaning(inputs: u32, sides: &[Rows; 2]) -> Vec<String> {
+pub fn meaning(inputs: u32, sides: &[Side; 2]) -> Vec<String> {
     let rows = numbers::of(columns::totals(inputs, &sides[0])[0], "row");
     vec![
         format!("Each list has {rows}, and each input is true equally often in both. So under"),
@@ -67,13 +67,13 @@ pub fn meaning(inputs: u32, sides: &[Rows; 2]) -> Vec<String> {
 }
 
 fn open_lines(job: &SavedJob, saved: Option<&str>) -> Vec<String> {
-    let (made, cap) = (numbers::grouped(job.corrections().into()), numbers::grouped(CAP.into()));
+    let (made, cap) = (numbers::of(job.corrections().into(), "correction"), numbers::grouped(CAP.into()));
     let next = match saved {
         _ if job.corrections() == CAP => "the cap is reached: this job cannot go on".to_string(),
         Some(file) => format!("to go on: threshold on {file}"),
         None => format!("to go on: ask with --save FILE, then `threshold on FILE`; or ask with --budget {CAP}"),
     };
-    vec![format!("{made} corrections made, of at most {cap}"), next]
+    vec![format!("{made} made, of at most {cap}"), next]
 }
 
 /// After how many corrections a verdict was found, if it is one and that is known.
@@ -168,6 +168,7 @@ slow, 8 inputs: given up so far
     to go on: ask with --save FILE, then `threshold on FILE`; or ask with --budget 1000000
 ";
         assert_eq!(verdict("slow", &known, false, None), expected);
+        assert!(verdict("slow", &Known::decided(&slow(), 1), false, None).contains("\n    1 correction made, of at most 1,000,000\n"));
         assert!(verdict("slow", &known, false, Some("job")).ends_with("\n    to go on: threshold on job\n"));
     }
 }

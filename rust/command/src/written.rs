@@ -4,15 +4,19 @@ use crate::expression::{Expression, Fault};
 use crate::numbers;
 use threshold::{Refusal, Table};
 
+/// The text of a line, or nothing if it is blank or a comment.
+pub fn content(line: &str) -> Option<&str> {
+    Some(line.trim()).filter(|line| !line.is_empty() && !line.starts_with('#'))
+}
+
 /// A table by hex digits, with or without `0x`, or by binary digits after `0b`, the highest row first. After a `/` may stand the number of
 /// inputs: one hex digit is a table of two inputs, and `2/1` one of one. `inputs` is what the call says of them, if anything.
 ///
 /// `0b` begins hex digits too, as those of the table 0b11 of four inputs. Where their number is right for a table they are hex; so a table
-/// of one input is written in binary digits only where its inputs are named.
+/// of one input is written in binary digits only where its inputs are named, as in `0b10/1`: [`note`] says so.
 pub fn table(text: &str, inputs: Option<u32>) -> Result<Table, String> {
     if let Some((digits, named)) = text.rsplit_once('/') {
-        let named = named.parse().ok().filter(|&named| named <= 8).ok_or_else(|| format!("{text:?}: after the / stand 0 to 8 inputs"))?;
-        return table(digits, Some(named));
+        return table_of_named(text, digits, named, inputs);
     }
     let hex_length = match inputs {
         Some(inputs) => text.len() == hex_digits(inputs),
@@ -21,6 +25,42 @@ pub fn table(text: &str, inputs: Option<u32>) -> Result<Table, String> {
     match text.strip_prefix("0b").or_else(|| text.strip_prefix("0B")) {
         Some(digits) if !hex_length => binary(text, digits, inputs),
         _ => hex(text, inputs),
+    }
+}
+
+/// A table whose inputs stand after a `/`. What the call says of them must be the same.
+fn table_of_named(text: &str, digits: &str, named: &str, inputs: Option<u32>) -> Result<Table, String> {
+    if digits.contains('/') {
+        return Err(format!("{text:?}: a table has one / at most"));
+    }
+    let named = named.parse().ok().filter(|&named| named <= 8).ok_or_else(|| format!("{text:?}: after the / stand 0 to 8 inputs"))?;
+    match inputs {
+        Some(inputs) if inputs != named => {
+            Err(format!("{text:?} is a table of {}, and -n says {inputs}", numbers::of(named.into(), "input")))
+        }
+        _ => table(digits, Some(named)),
+    }
+}
+
+/// What is to be said of a table that reads as hex digits and looks like binary ones: that it is hex, and how it is written in binary.
+pub fn note(text: &str, inputs: Option<u32>) -> Option<String> {
+    let digits = text.strip_prefix("0b").or_else(|| text.strip_prefix("0B"))?;
+    let looks_binary = !digits.is_empty() && digits.bytes().all(|byte| matches!(byte, b'0' | b'1'));
+    if inputs.is_some() || !looks_binary || !text.len().is_power_of_two() {
+        return None;
+    }
+    // Of these lengths one alone has as many digits after 0b as a table has rows.
+    Some(match digits.len() {
+        2 => format!("{text} is read as hex digits; in binary: {text}/1"),
+        count => format!("{text} is read as hex digits; {count} binary digits are no table"),
+    })
+}
+
+/// Why a text is no table, with a hint where it is an expression.
+pub fn hinted(text: &str, why: String) -> String {
+    match Expression::read(text) {
+        Ok(_) => format!("{why}; as an expression it is asked by threshold -e"),
+        Err(_) => why,
     }
 }
 
@@ -100,6 +140,11 @@ mod tests {
     }
 
     #[test]
+    fn blank_lines_and_comments_are_left_out() {
+        assert_eq!(["", "  \r", "# e8", " e8\r"].map(content), [None, None, None, Some("e8")]);
+    }
+
+    #[test]
     fn digits_have_the_highest_row_first() {
         same("8000", 4, [0x8000, 0, 0, 0]);
         same("0xE8", 3, [0xe8, 0, 0, 0]);
@@ -124,11 +169,36 @@ mod tests {
     }
 
     #[test]
+    fn a_note_is_of_hex_digits_that_look_binary() {
+        let note = |text| note(text, None).unwrap_or_default();
+        assert_eq!(note("0b10"), "0b10 is read as hex digits; in binary: 0b10/1");
+        assert_eq!(note("0b101010"), "0b101010 is read as hex digits; 6 binary digits are no table");
+        assert_eq!(note("0b11101001110100"), "0b11101001110100 is read as hex digits; 14 binary digits are no table");
+        for text in ["0b", "0b12", "0b1f", "0b1", "0b1010", "0b10/1", "0b10/4", "e8", "0b102345"] {
+            assert_eq!(note(text), "", "{text}");
+        }
+        assert_eq!(super::note("0b10", Some(1)), None);
+        assert_eq!(super::note("0b10", Some(4)), None);
+    }
+
+    #[test]
+    fn binary_digits_with_their_inputs_are_binary() {
+        for inputs in 0..=8 {
+            let digits: String = (0..1 << inputs).map(|row| if row % 3 == 0 { '1' } else { '0' }).collect();
+            let rows = digits.as_bytes();
+            let expected = Table::from_fn(inputs, |row| rows[rows.len() - 1 - row as usize] == b'1').unwrap();
+            assert_eq!(table(&format!("0b{digits}/{inputs}"), None), Ok(expected));
+        }
+    }
+
+    #[test]
     fn the_call_may_name_the_inputs() {
         assert_eq!(table("2", Some(1)), Table::from_words(1, &[2]).map_err(|_| String::new()));
         assert_eq!(table("0b10", Some(1)), table("2/1", None));
         assert_eq!(table("0b10", Some(4)), table("0b10", None));
         assert_eq!(table("0", Some(0)), table("0b0", None));
+        assert_eq!(table("e8/3", Some(3)), table("e8", None));
+        assert_eq!(table("e8/3", Some(4)).unwrap_err(), "\"e8/3\" is a table of 3 inputs, and -n says 4");
         assert_eq!(table("e8", Some(4)).unwrap_err(), "\"e8\" is no table of 4 inputs, which has 4 hex digits");
         assert_eq!(table("0b1000", Some(3)).unwrap_err(), "\"0b1000\" is a table of 2 inputs");
     }
@@ -143,6 +213,8 @@ mod tests {
             ("é", "\"é\" is no table: 'é' is not a hex digit"),
             ("0b102", "\"0b102\" is no table: '2' is not a binary digit"),
             ("0b111", "\"0b111\" has 3 binary digits: a table of 0 to 8 inputs has 1, 2, 4, 8, 16, 32, 64, 128 or 256"),
+            ("e8/3/2", "\"e8/3/2\": a table has one / at most"),
+            ("/3/", "\"/3/\": a table has one / at most"),
             ("e8/9", "\"e8/9\": after the / stand 0 to 8 inputs"),
         ] {
             assert_eq!(table(text, None).unwrap_err(), told);

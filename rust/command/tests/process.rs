@@ -2,6 +2,7 @@
 
 use std::fs::{self, File};
 use std::io::{Read, Write};
+use std::os::unix::fs::{MetadataExt, PermissionsExt};
 use std::path::PathBuf;
 use std::process::{Command, Stdio};
 
@@ -73,6 +74,87 @@ fn a_job_is_saved_and_carried_on() {
     assert_eq!(ran(&["list", name], b""), (0, listed.into_bytes(), String::new()));
     assert_eq!(fs::read_dir(&folder).unwrap().count(), 1);
     fs::remove_dir_all(folder).unwrap();
+}
+
+#[test]
+fn a_file_without_an_open_job_is_left_as_it_is() {
+    let folder = folder("closed");
+    let file = folder.join("closed.bin");
+    let name = file.to_str().unwrap();
+    for lines in ["e8\n", "e8: 1 1 1 >= 2\nf888: 3 12 = 5 10\n2/1\n", ""] {
+        let (_, records, _) = ran(&["pack"], lines.as_bytes());
+        fs::write(&file, &records).unwrap();
+        let before = fs::metadata(&file).unwrap();
+        let (status, output, errors) = ran(&["on", name], b"");
+        assert_eq!((status, output.len()), (4, 0), "{lines}");
+        let why = if lines.is_empty() {
+            "no record is in it".to_string()
+        } else {
+            format!("no open job is in it; threshold list {name} shows what is")
+        };
+        assert_eq!(errors, format!("threshold: {name}: {why}\n"));
+        let after = fs::metadata(&file).unwrap();
+        assert_eq!((after.ino(), after.modified().unwrap()), (before.ino(), before.modified().unwrap()));
+        assert_eq!(fs::read(&file).unwrap(), records);
+    }
+    fs::remove_dir_all(folder).unwrap();
+}
+
+#[test]
+fn a_file_keeps_its_mode() {
+    let folder = folder("mode");
+    let file = folder.join("job.bin");
+    let name = file.to_str().unwrap();
+    assert_eq!(ran(&["--save", name, "--budget", "1", SLOW], b"").0, 3);
+    for mode in [0o600, 0o664] {
+        fs::set_permissions(&file, fs::Permissions::from_mode(mode)).unwrap();
+        let before = fs::read(&file).unwrap();
+        assert_eq!(ran(&["on", name, "--budget", "1"], b"").0, 3);
+        assert_ne!(fs::read(&file).unwrap(), before);
+        assert_eq!(fs::metadata(&file).unwrap().permissions().mode() & 0o7777, mode);
+    }
+    fs::remove_dir_all(folder).unwrap();
+}
+
+#[test]
+fn verdicts_are_saved_before_they_are_told() {
+    let folder = folder("save");
+    let file = folder.join("saved.bin");
+    let name = file.to_str().unwrap();
+    let full = File::options().write(true).open("/dev/full").unwrap();
+    assert_eq!(command(&["--save", name, "e8", "f888"]).stdout(full).stderr(Stdio::null()).status().unwrap().code(), Some(4));
+    assert_eq!(ran(&["list", name], b"").1, b"e8: 2 3 3 >= 4\nf888: 3 12 = 6 9\n");
+    fs::remove_dir_all(folder).unwrap();
+}
+
+#[test]
+fn hex_digits_that_look_binary_are_told_in_a_call_and_not_in_lines() {
+    let (status, output, errors) = ran(&["0b10", "0b10/1"], b"");
+    assert_eq!((status, errors.as_str()), (1, "threshold: 0b10 is read as hex digits; in binary: 0b10/1\n"));
+    let output = String::from_utf8(output).unwrap();
+    assert!(output.starts_with("0b10, 4 inputs: no gate") && output.contains("\n2/1, 1 input: one gate"), "{output}");
+    let (_, _, errors) = ran(&["many"], b"0b10\n");
+    assert!(errors.starts_with("1 table, "), "{errors}");
+}
+
+#[test]
+fn gates_past_all_limits_are_refused() {
+    for gate in ["e8: 4000000000 x1 - 3000000000 x1 + x1 + x2 + x3 >= 2", "e8: 3000000000 x1 - 2147483646 x1 + x2 + x3 >= 2"] {
+        let (status, output, errors) = ran(&["check", gate], b"");
+        assert_eq!((status, output.len()), (2, 0), "{gate}");
+        assert!(errors.contains("refused by 7: a weight or the threshold is beyond 1,000,000"), "{errors}");
+    }
+}
+
+#[test]
+fn where_memory_is_short_fewer_threads_work() {
+    let script = "ulimit -v 300000 && exec \"$0\" many --jobs 200";
+    let mut limited = Command::new("sh");
+    limited.args(["-c", script, env!("CARGO_BIN_EXE_threshold")]).stdin(Stdio::piped()).stdout(Stdio::piped()).stderr(Stdio::null());
+    let mut child = limited.spawn().unwrap();
+    child.stdin.take().unwrap().write_all("e8\n".repeat(10_000).as_bytes()).unwrap();
+    let output = child.wait_with_output().unwrap();
+    assert_eq!((output.status.code(), output.stdout), (Some(0), "e8: 2 3 3 >= 4\n".repeat(10_000).into_bytes()));
 }
 
 #[test]

@@ -7,7 +7,8 @@ use std::str::FromStr;
 
 /// A truth table of up to eight inputs. In row r, input i (1 to n) is true when bit i - 1 of r is 1.
 ///
-/// It is parsed from and shown as hex digits, the digit of the highest rows first, as ABC and kitty write them.
+/// It is parsed from and shown as hex digits, the digit of the highest rows first, as ABC and kitty write them. What is shown of a table
+/// under two inputs does not say their number: it is one digit, which is parsed as a table of two inputs.
 ///
 /// ```
 /// use threshold::Table;
@@ -16,6 +17,7 @@ use std::str::FromStr;
 /// assert_eq!(and, Table::from_fn(4, |row| row == 15)?);
 /// assert_eq!(and, "0x8000".parse()?);
 /// assert_eq!(and.to_string(), "8000");
+/// assert_eq!(Table::from_hex(1, "2")?.to_string(), "2"); // "2".parse() has two inputs
 /// # Ok::<(), threshold::Refusal>(())
 /// ```
 #[derive(Clone, PartialEq, Eq, Hash)]

@@ -6,10 +6,10 @@ use std::io::{self, BufRead, BufReader, Read};
 const FIRST: usize = 64;
 const LARGEST: usize = 4096;
 
-/// A longer line is no table.
-const LONGEST_LINE: u64 = 65_536;
+/// A line of more bytes, with its end, is no table.
+pub const LONGEST_LINE: usize = 65_536;
 
-/// Whole lines.
+/// Whole lines. One that is too long has lost its rest, and is still too long.
 pub struct Chunk {
     /// Its place among the chunks, from 0 on.
     pub index: usize,
@@ -34,9 +34,10 @@ impl Source {
         let mut chunk = Chunk { index: self.index, first_line: self.line, text: Vec::new() };
         let enough = LARGEST.min(FIRST * (1 + self.index / 4));
         while chunk.text.len() < enough {
-            let length = self.input.by_ref().take(LONGEST_LINE).read_until(b'\n', &mut chunk.text)?;
-            if length as u64 == LONGEST_LINE && !chunk.text.ends_with(b"\n") {
-                return Err(io::Error::new(io::ErrorKind::InvalidData, format!("line {} is longer than {LONGEST_LINE} bytes", self.line)));
+            let length = self.input.by_ref().take(LONGEST_LINE as u64).read_until(b'\n', &mut chunk.text)?;
+            if length == LONGEST_LINE && !chunk.text.ends_with(b"\n") {
+                self.input.skip_until(b'\n')?;
+                chunk.text.push(b'\n');
             }
             self.line += u64::from(length > 0);
             if length == 0 || self.input.buffer().is_empty() {
@@ -73,8 +74,11 @@ mod tests {
     }
 
     #[test]
-    fn a_line_without_end_is_refused() {
-        let mut source = Source::new(Box::new(io::repeat(b'0')));
-        assert_eq!(source.next().err().unwrap().to_string(), "line 1 is longer than 65536 bytes");
+    fn of_a_long_line_the_rest_is_skipped() {
+        let lines = [65_534, 65_535, 65_536, 65_537, 1_000_000, 1].map(|length| "0".repeat(length));
+        let chunks = chunks(&lines.join("\n"));
+        let lengths = [65_535, 65_536, 65_537, 65_537, 65_537, 1];
+        assert_eq!(chunks.iter().map(|chunk| chunk.text.len()).collect::<Vec<_>>(), lengths);
+        assert_eq!(chunks.iter().map(|chunk| chunk.first_line).collect::<Vec<_>>(), [1, 2, 3, 4, 5, 6]);
     }
 }
