@@ -93,7 +93,8 @@ fn read_on(arguments: &[String]) -> Result<Request, Trouble> {
             Word::Alone(file) => files.push(file),
         }
     }
-    asked.file = one(files)?.ok_or_else(|| Trouble::Usage("on: a file is missing, as --save has written it".to_string()))?;
+    let missing = "on: a file is missing, as --save has written it; standard input cannot be written anew";
+    asked.file = one(files)?.ok_or_else(|| Trouble::Usage(missing.to_string()))?;
     Ok(Request::On(asked))
 }
 

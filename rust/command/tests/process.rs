@@ -101,6 +101,23 @@ fn a_file_without_an_open_job_is_left_as_it_is() {
 }
 
 #[test]
+fn a_file_in_which_nothing_changes_is_not_written() {
+    // The job at the cap of docs/FORMAT.md.
+    let job = [4, 0, 0, 0xc0, 0x84, 0x3d, 0xff, 0x95, 0x0f, 0xff, 0x9e, 0x49, 1, 0, 0xc0, 0x84, 0x1d];
+    let folder = folder("cap");
+    let file = folder.join("job.bin");
+    fs::write(&file, job).unwrap();
+    let before = fs::metadata(&file).unwrap();
+    let (status, output, _) = ran(&["on", file.to_str().unwrap()], b"");
+    let lines =
+        ["0/0, 0 inputs: given up so far", "1,000,000 corrections made, of at most 1,000,000", "the cap is reached: this job cannot go on"];
+    assert_eq!((status, String::from_utf8(output).unwrap()), (3, lines.join("\n    ") + "\n"));
+    let after = fs::metadata(&file).unwrap();
+    assert_eq!((after.ino(), after.modified().unwrap()), (before.ino(), before.modified().unwrap()));
+    fs::remove_dir_all(folder).unwrap();
+}
+
+#[test]
 fn a_file_keeps_its_mode() {
     let folder = folder("mode");
     let file = folder.join("job.bin");
