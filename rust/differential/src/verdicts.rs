@@ -15,7 +15,7 @@ use threshold::{CALL_BUDGET, ROOM};
 /// Random tables of each family by n, 0 to 8. The reference takes milliseconds for a gate of eight inputs, and a thousandth of that to
 /// see a binate input.
 const RANDOM: [(Family, [usize; 9]); 4] = [
-    (Family::Random, [100, 100, 1_000, 20_000, 50_000, 80_000, 60_000, 40_000, 20_000]),
+    (Family::Random, [100, 100, 1_000, 20_000, 100_000, 200_000, 150_000, 100_000, 50_000]),
     (Family::Threshold, [100, 100, 1_000, 20_000, 60_000, 40_000, 10_000, 2_500, 1_000]),
     (Family::NearlyThreshold, [100, 100, 1_000, 20_000, 60_000, 40_000, 10_000, 2_500, 1_000]),
     (Family::Unate, [100, 100, 1_000, 20_000, 60_000, 40_000, 10_000, 2_500, 1_000]),
@@ -40,8 +40,8 @@ pub fn compare_verdicts(comparison: &mut Comparison) -> Result<u64, Difference> 
     Ok(verdicts)
 }
 
-/// Compares a table's verdict and the check of its certificate; of one in eight also the verdict in other rooms and by a fresh job, the
-/// ways back to both records and the check of another certificate; of one in 32 what can be asked of inputs and rows.
+/// Compares a table's verdict and the check of its certificate; of one in eight also all else that can be asked: the verdict in other rooms
+/// and by a fresh job, the ways back to both records, inputs and rows, and the check of another certificate.
 fn verdict(comparison: &mut Comparison, record: &[u8]) -> Result<(), Difference> {
     let outcome = comparison.compare(Call::Decide, record, ROOM)?;
     let answer = outcome.written().expect("a table is decided");
@@ -53,12 +53,10 @@ fn verdict(comparison: &mut Comparison, record: &[u8]) -> Result<(), Difference>
         }
         by_fresh_job(comparison, record, handed)?;
         ways_back(comparison, record, answer)?;
-        let nudged = nudged(&mut comparison.random, answer);
-        comparison.compare(Call::Check, &nudged, 0)?;
-    }
-    if comparison.random.one_in(32) {
         inputs_and_rows(comparison, record)?;
         inputs_and_rows(comparison, answer)?;
+        let nudged = nudged(&mut comparison.random, answer);
+        comparison.compare(Call::Check, &nudged, 0)?;
     }
     Ok(())
 }
@@ -90,16 +88,14 @@ fn by_fresh_job(comparison: &mut Comparison, record: &[u8], decided: HandedBack)
     Ok(())
 }
 
-/// Compares the kinds and Chow's parameters, with any room, and the value on each row and past the last; of a record without values on row
-/// 0 and past the last.
+/// Compares the kinds and Chow's parameters, with any room, and the value on each row and past the last.
 fn inputs_and_rows(comparison: &mut Comparison, record: &[u8]) -> Result<(), Difference> {
     for call in [Call::Kinds, Call::Chow] {
         let room = comparison.random.below(24);
         comparison.compare(call, record, room)?;
     }
     let rows = 1 << record[1];
-    let asked = if record[0] <= 2 { rows } else { 1 };
-    for row in (0..asked).chain([rows, u32::MAX]) {
+    for row in (0..=rows).chain([u32::MAX]) {
         comparison.compare(Call::Value(row), record, 0)?;
     }
     Ok(())
