@@ -21,9 +21,9 @@ static const int INPUTS[SIZES] = {4, 6, 8};
 typedef struct {
     uint32_t n, row, k;
     char digits[64];
-    uint64_t words[4];
-    size_t digit_count, word_count, record_length, verdict_length, job_length;
-    uint8_t record[34], verdict[1200], job[1200]; /* kind 1; kind 2 or 3; kind 4, at half of the corrections */
+    uint64_t words[4], free_words[4], cares[4]; /* of the table, and of it with about an eighth of the rows not cared for */
+    size_t partial_length, digit_count, word_count, record_length, verdict_length, job_length;
+    uint8_t record[34], partial[66], verdict[1200], job[1200]; /* kind 1; kind 5; kind 2 or 3; kind 4, at half of the corrections */
     int32_t weights[8], t;
     uint32_t counts[256];
 } Item;
@@ -36,6 +36,7 @@ static uint32_t counts_out[256], made;
 /* ---- the calls ---- */
 
 #define RECORD x->record, x->record_length
+#define PARTIAL x->partial, x->partial_length
 #define VERDICT x->verdict, x->verdict_length
 #define JOB x->job, x->job_length
 #define OUT out, sizeof out
@@ -43,11 +44,20 @@ static uint32_t counts_out[256], made;
 static int64_t nothing(const Item *x) { return x->n; }
 static int64_t from_hex(const Item *x) { return threshold_from_hex(x->n, x->digits, x->digit_count, OUT); }
 static int64_t from_words(const Item *x) { return threshold_from_words(x->n, x->words, x->word_count, OUT); }
+static int64_t from_cares(const Item *x) {
+    return threshold_from_cares(x->n, x->free_words, x->word_count, x->cares, x->word_count, OUT);
+}
 static int64_t decided(const Item *x) { return threshold_decide(RECORD, OUT, &made); }
 static int64_t made_fresh(const Item *x) { return threshold_fresh(RECORD, OUT); }
 static int64_t carried_on(const Item *x) { return threshold_carry_on(JOB, 1, OUT, &made); }
 static int64_t corrections(const Item *x) { return threshold_corrections(JOB); }
+static int64_t find_gate(const Item *x) { return threshold_find_gate(RECORD, CALL_BUDGET, weights_out, 8, &t_out, &made); }
+static int64_t find_partial_gate(const Item *x) { return threshold_find_gate(PARTIAL, CALL_BUDGET, weights_out, 8, &t_out, &made); }
+static int64_t find_witness(const Item *x) { return threshold_find_witness(RECORD, CALL_BUDGET, counts_out, 256, &made); }
 static int64_t check(const Item *x) { return threshold_check(VERDICT); }
+static int64_t check_gate(const Item *x) { return threshold_check_gate(RECORD, x->weights, x->n, x->t); }
+static int64_t check_partial_gate(const Item *x) { return threshold_check_gate(PARTIAL, x->weights, x->n, x->t); }
+static int64_t check_witness(const Item *x) { return threshold_check_witness(RECORD, x->counts, (size_t)1 << x->n); }
 static int64_t gate(const Item *x) { return threshold_gate(VERDICT, weights_out, 8, &t_out); }
 static int64_t witness(const Item *x) { return threshold_witness(VERDICT, counts_out, 256); }
 static int64_t from_gate(const Item *x) { return threshold_from_gate(RECORD, x->weights, x->n, x->t, OUT); }
@@ -66,6 +76,7 @@ static const struct {
 } MEASURES[] = {
     {"`from_hex`", "the digits of a table", GATES, from_hex},
     {"`from_words`", "the words of a table", GATES, from_words},
+    {"`from_cares`", "the words of a table and of its cares, an eighth of them 0", GATES, from_cares},
     {"`decide`", "a table that has a gate", GATES, decided},
     {"`decide`", "a unate table that has none", LOOPS, decided},
     {"`decide`", "a table with a binate input", BINATES, decided},
@@ -73,8 +84,14 @@ static const struct {
     {"`fresh`", "a table that has a gate", GATES, made_fresh},
     {"`fresh`", "a table with a binate input", BINATES, made_fresh},
     {"`corrections`", "a job at half of a gate's corrections", GATES, corrections},
+    {"`find_gate`", "a table that has a gate", GATES, find_gate},
+    {"`find_gate`", "the same with an eighth of the rows not cared for", GATES, find_partial_gate},
+    {"`find_witness`", "a unate table that has none", LOOPS, find_witness},
     {"`check`", "a gate", GATES, check},
     {"`check`", "a witness", LOOPS, check},
+    {"`check_gate`", "a table, weights and T", GATES, check_gate},
+    {"`check_gate`", "the same with an eighth of the rows not cared for", GATES, check_partial_gate},
+    {"`check_witness`", "a table and counts", LOOPS, check_witness},
     {"`gate`", "a gate", GATES, gate},
     {"`witness`", "a witness", LOOPS, witness},
     {"`from_gate`", "a table, weights and T", GATES, from_gate},
@@ -141,6 +158,23 @@ static void write_table(Item *x, const Job *j) {
     memcpy(x->words, j->table, sizeof x->words);
 }
 
+/* The table with about an eighth of its rows not cared for, row 0 among them, as words and as the record of these bits. The random numbers
+   that it takes are drawn again, so that the tables stay those that they were. */
+static void write_partial(Item *x, const Job *j) {
+    size_t bytes = x->record_length - 2;
+    const uint64_t before = state;
+    for (int r = 0; r < j->rows; r++) x->cares[r / 64] |= (uint64_t)(r != 0 && below(8) != 0) << r % 64;
+    state = before;
+    for (int w = 0; w < 4; w++) x->free_words[w] = x->words[w] & x->cares[w];
+    x->partial_length = 2 + 2 * bytes;
+    x->partial[0] = THRESHOLD_RECORD_PARTIAL_TABLE;
+    x->partial[1] = (uint8_t)x->n;
+    for (size_t i = 0; i < bytes; i++) {
+        x->partial[2 + i] = (uint8_t)(x->free_words[i / 8] >> i % 8 * 8);
+        x->partial[2 + bytes + i] = (uint8_t)(x->cares[i / 8] >> i % 8 * 8);
+    }
+}
+
 /* The verdict, and its numbers, which lead back to it. */
 static void write_verdict(Item *x, const Job *j) {
     x->verdict_length = kept(x->verdict, decided(x));
@@ -152,11 +186,17 @@ static void write_verdict(Item *x, const Job *j) {
         x->t = t_out;
         must(!memcmp(x->weights, j->v, sizeof x->weights[0] * x->n) && x->t == j->v[8], "a gate");
         must(wrote(from_gate(x), x->verdict, x->verdict_length), "a gate's record");
+        must(find_gate(x) == j->n && made == j->k && t_out == x->t, "a gate found");
+        must(!memcmp(weights_out, x->weights, sizeof x->weights[0] * x->n), "a gate's weights found");
+        must(check_gate(x) == 1 && check_partial_gate(x) == 1, "a gate's numbers");
+        must(find_partial_gate(x) == j->n && threshold_check_gate(PARTIAL, weights_out, x->n, t_out) == 1, "a partial table's gate");
     } else {
         must(witness(x) == j->rows, "a witness's rows");
         memcpy(x->counts, counts_out, sizeof x->counts);
         must(!memcmp(x->counts, j->counts, sizeof x->counts[0] * (size_t)j->rows), "a witness");
         must(wrote(from_witness(x), x->verdict, x->verdict_length), "a witness's record");
+        must(find_witness(x) == j->rows && made == j->k && !memcmp(counts_out, x->counts, sizeof x->counts), "a witness found");
+        must(check_witness(x) == 1, "a witness's counts");
     }
 }
 
@@ -200,6 +240,8 @@ static void make_item(Item *x, int n, int sort) {
     make_table(&j, n, sort);
     write_table(x, &j);
     must(wrote(from_hex(x), RECORD) && wrote(from_words(x), RECORD), "a record");
+    write_partial(x, &j);
+    must(wrote(from_cares(x), PARTIAL), "a partial table's record");
     write_verdict(x, &j);
     write_job(x);
     check_inputs(x, &j);

@@ -1,8 +1,9 @@
 /* Decides tables by linear programs of GLPK, with a certificate of each answer: lp < records
 
-   A table with a binate input is refused at once, with document 01's four counts. For any other a first program asks for weights and T
-   (true rows: sum - T at least 0, false rows: at most -1), and if there are none a second asks for balanced counts whose true rows add up
-   to 1. The numbers of a solution are scaled to integers, and these are tested on every row or in every sum before they are printed.
+   A table with a binate input is refused at once, with document 01's four counts, and one with no row cared for gets the gate of zeros. For
+   any other a first program asks for weights and T (true rows: sum - T at least 0, false rows: at most -1), and if there are none a second
+   asks for balanced counts whose true rows add up to 1; both have the rows cared for alone. The numbers of a solution are scaled to
+   integers, and these are tested on every such row or in every sum before they are printed.
 
    A line has the position and n, then G, the weights and T; or N and row:count pairs; or ? where no certificate was found. */
 #include "machine.h"
@@ -46,7 +47,7 @@ static int realises(const Job *j, const int64_t *gate) {
     for (int r = 0; r < j->rows; r++) {
         int64_t d = -gate[j->n];
         for (int i = 0; i < j->n; i++) d += r >> i & 1 ? gate[i] : 0;
-        if ((d >= 0) != value(j, r)) return 0;
+        if (cared(j, r) && (d >= 0) != value(j, r)) return 0;
     }
     return 1;
 }
@@ -55,7 +56,7 @@ static int balances(const Job *j, const int64_t *counts) {
     int64_t total = 0, difference[9] = {0};
     for (int r = 0; r < j->rows; r++) {
         int64_t x = value(j, r) ? counts[r] : -counts[r];
-        if (counts[r] < 0) return 0;
+        if (counts[r] < 0 || (counts[r] && !cared(j, r))) return 0;
         total += counts[r];
         difference[8] += x;
         for (int i = 0; i < j->n; i++) difference[i] += r >> i & 1 ? x : 0;
@@ -65,19 +66,28 @@ static int balances(const Job *j, const int64_t *counts) {
     return total > 0;
 }
 
+/* The rows cared for, rising; how many. */
+static int rows_cared(const Job *j, int *rows) {
+    int count = 0;
+    for (int r = 0; r < j->rows; r++)
+        if (cared(j, r)) rows[count++] = r;
+    return count;
+}
+
 /* Weights and T; 1 if there are some and they were scaled to integers, 0 if there are none, -1 if none were scaled. */
 static int gate_of(const Job *j, int64_t *gate) {
     glp_prob *p = glp_create_prob();
-    int found = 0;
-    glp_add_rows(p, j->rows);
+    int found = 0, rows[256], count = rows_cared(j, rows);
+    glp_add_rows(p, count);
     glp_add_cols(p, j->n + 1);
     entries = 0;
     for (int i = 1; i <= j->n + 1; i++) glp_set_col_bnds(p, i, GLP_FR, 0, 0);
-    for (int r = 0; r < j->rows; r++) {
-        glp_set_row_bnds(p, r + 1, value(j, r) ? GLP_LO : GLP_UP, 0, -1);
+    for (int q = 1; q <= count; q++) {
+        int r = rows[q - 1];
+        glp_set_row_bnds(p, q, value(j, r) ? GLP_LO : GLP_UP, 0, -1);
         for (int i = 0; i < j->n; i++)
-            if (r >> i & 1) entry(r + 1, i + 1, 1);
-        entry(r + 1, j->n + 1, -1);
+            if (r >> i & 1) entry(q, i + 1, 1);
+        entry(q, j->n + 1, -1);
     }
     if (solved(p, GLP_DUALP)) found = -1;
     for (int scale = 1; found < 0 && scale <= SCALE_MOST; scale++)
@@ -89,23 +99,29 @@ static int gate_of(const Job *j, int64_t *gate) {
 /* Balanced counts; whether there are some and they were scaled to integers. */
 static int witness_of(const Job *j, int64_t *counts) {
     glp_prob *p = glp_create_prob();
-    int found = 0;
+    int found = 0, rows[256], count = rows_cared(j, rows);
+    int64_t numbers[256];
     glp_add_rows(p, j->n + 2);
-    glp_add_cols(p, j->rows);
+    glp_add_cols(p, count);
     entries = 0;
     for (int i = 1; i <= j->n + 1; i++) glp_set_row_bnds(p, i, GLP_FX, 0, 0);
     glp_set_row_bnds(p, j->n + 2, GLP_FX, 1, 1);
-    for (int r = 0; r < j->rows; r++) {
+    for (int q = 1; q <= count; q++) {
+        int r = rows[q - 1];
         double sign = value(j, r) ? 1 : -1;
-        glp_set_col_bnds(p, r + 1, GLP_LO, 0, 0);
+        glp_set_col_bnds(p, q, GLP_LO, 0, 0);
         for (int i = 0; i < j->n; i++)
-            if (r >> i & 1) entry(i + 1, r + 1, sign);
-        entry(j->n + 1, r + 1, sign);
-        if (value(j, r)) entry(j->n + 2, r + 1, 1);
+            if (r >> i & 1) entry(i + 1, q, sign);
+        entry(j->n + 1, q, sign);
+        if (value(j, r)) entry(j->n + 2, q, 1);
     }
+    memset(counts, 0, sizeof counts[0] * 256);
     if (solved(p, GLP_PRIMAL))
-        for (int scale = 1; !found && scale <= SCALE_MOST; scale++)
-            found = scaled(p, j->rows, scale, 1e-6 * scale, counts) && balances(j, counts);
+        for (int scale = 1; !found && scale <= SCALE_MOST; scale++) {
+            if (!scaled(p, count, scale, 1e-6 * scale, numbers)) continue;
+            for (int q = 0; q < count; q++) counts[rows[q]] = numbers[q];
+            found = balances(j, counts);
+        }
     glp_delete_prob(p);
     return found;
 }
@@ -122,14 +138,14 @@ static void print_witness(const Job *j, const int64_t *counts) {
 }
 
 static void decide(Job *j) {
-    int64_t gate[9], counts[256];
+    int64_t gate[9] = {0}, counts[256];
     fresh(j);
     if (j->stage == BINATE) {
         for (int r = 0; r < j->rows; r++) counts[r] = j->counts[r];
         print_witness(j, counts);
         return;
     }
-    int found = gate_of(j, gate);
+    int found = j->stage == FOUND ? 1 : gate_of(j, gate);
     if (found > 0) print_gate(j, gate);
     else if (!found && witness_of(j, counts)) print_witness(j, counts);
     else putchar('?');
@@ -141,7 +157,7 @@ int main(void) {
     size_t length = read_input(input), at = 0;
     int kind;
     glp_term_out(GLP_OFF);
-    for (int position = 1; !read_head(input, length, &at, 1, &kind, &j); position++) {
+    for (int position = 1; !read_head(input, length, &at, KIND(1) | KIND(5), &kind, &j); position++) {
         printf("%d %d ", position, j.n);
         decide(&j);
         putchar('\n');

@@ -1,4 +1,5 @@
-/* Document 01's stepping machine in plain C: a job, the head of a record, the fresh job, and carry-on in the form "lanes".
+/* Document 01's stepping machine in plain C, with document 02's rows not cared for: a job, the head of a record, the fresh job, and
+   carry-on in the form "lanes", one loop for tables with such rows and without.
 
    Nothing is tested that a caller can get right: a job is taken to be sound, and a budget to be within the cap. Distances have 16 bits, and
    v - s is kept in places of 12 bits, which is enough for 100,000 corrections from the fresh job. */
@@ -13,12 +14,20 @@ enum { CALL_BUDGET = 100000, INPUT_MOST = 65536, LOW_ROWS = 32 };
 
 typedef struct {
     int n, rows, stage;
-    uint64_t table[4]; /* row r is bit r mod 64 of word r div 64 */
+    uint64_t table[4], care[4]; /* row r is bit r mod 64 of word r div 64; a row not cared for is false */
     uint32_t k, counts[256];
     int32_t v[9], s[9]; /* a1 to a8, and b */
 } Job;
 
-static inline int value(const Job *j, int row) { return (int)(j->table[row >> 6] >> (row & 63) & 1); }
+static inline int bit(const uint64_t *words, int row) { return (int)(words[row >> 6] >> (row & 63) & 1); }
+static inline int value(const Job *j, int row) { return bit(j->table, row); }
+static inline int cared(const Job *j, int row) { return bit(j->care, row); }
+
+static const uint64_t EVERY_ROW[9][4] = {{0x1}, {0x3}, {0xf}, {0xff}, {0xffff}, {0xffffffff}, {UINT64_MAX},
+                                         {UINT64_MAX, UINT64_MAX}, {UINT64_MAX, UINT64_MAX, UINT64_MAX, UINT64_MAX}};
+
+static inline void care_for_every_row(Job *j) { memcpy(j->care, EVERY_ROW[j->n], sizeof j->care); }
+static inline int cares_for_every_row(const Job *j, int n) { return !memcmp(j->care, EVERY_ROW[n], sizeof j->care); }
 
 /* ---- reading ---- */
 
@@ -41,24 +50,45 @@ static inline int read_number(const uint8_t *bytes, size_t length, size_t *at, u
     return 4;
 }
 
-/* Reads a kind of at most `last`, n and the table; 0, or the number of a refusal. */
-static inline int read_head(const uint8_t *bytes, size_t length, size_t *at, int last, int *kind, Job *j) {
+/* Reads the value bytes or the care bytes of n inputs; 0, or the number of a refusal. */
+static inline int read_rows(const uint8_t *bytes, size_t length, size_t *at, uint32_t n, uint64_t *rows) {
+    size_t count = ((1u << n) + 7) / 8;
+    if (length - *at < count) return 1;
+    memset(rows, 0, 4 * sizeof *rows);
+    memcpy(rows, bytes + *at, count);
+    if (n < 3 && rows[0] >> (1u << n)) return 3;
+    *at += count;
+    return 0;
+}
+
+/* Whether a record of kind 5 has a value bit on a row not cared for, or no row that is not cared for. */
+static inline int wrong_cares(const Job *j) {
+    uint64_t loose = 0;
+    for (int w = 0; w < 4; w++) loose |= j->table[w] & ~j->care[w];
+    return loose || cares_for_every_row(j, j->n);
+}
+
+/* Kinds of records, as a set. */
+#define KIND(kind) (1u << (kind))
+
+/* Reads a kind of the set, n, the table and the cares of kind 5; 0, or the number of a refusal. */
+static inline int read_head(const uint8_t *bytes, size_t length, size_t *at, unsigned kinds, int *kind, Job *j) {
     uint32_t n;
     if (*at == length) return 1;
     *kind = bytes[(*at)++];
-    if (*kind < 1 || *kind > last) return 5;
+    if (*kind > 7 || !(kinds & KIND(*kind))) return 5;
     int refusal = read_number(bytes, length, at, &n);
     if (refusal) return refusal;
     if (n > 8) return 2;
-    size_t count = ((1u << n) + 7) / 8;
-    if (length - *at < count) return 1;
-    memset(j->table, 0, sizeof j->table);
-    memcpy(j->table, bytes + *at, count);
-    if (n < 3 && j->table[0] >> (1u << n)) return 3;
     j->n = (int)n;
     j->rows = 1 << n;
-    *at += count;
-    return 0;
+    if ((refusal = read_rows(bytes, length, at, n, j->table))) return refusal;
+    if (*kind != 5) {
+        care_for_every_row(j);
+        return 0;
+    }
+    if ((refusal = read_rows(bytes, length, at, n, j->care))) return refusal;
+    return wrong_cares(j) ? 16 : 0;
 }
 
 /* ---- the fresh job ---- */
@@ -66,15 +96,13 @@ static inline int read_head(const uint8_t *bytes, size_t length, size_t *at, int
 static const uint64_t WITHOUT[6] = {0x5555555555555555u, 0x3333333333333333u, 0x0f0f0f0f0f0f0f0fu,
                                     0x00ff00ff00ff00ffu, 0x0000ffff0000ffffu, 0x00000000ffffffffu};
 
-/* The rows without input i where it rises and where it falls. */
-static inline void changes_at(const Job *j, int i, int words, uint64_t *rises, uint64_t *falls) {
+/* The rows without input i where it rises and where it falls, both rows of the pair cared for: `zeros` are the false rows cared for. */
+static inline void changes_at(const uint64_t *table, const uint64_t *zeros, int i, int words, uint64_t *rises, uint64_t *falls) {
     for (int w = 0; w < words; w++) {
         int step = i < 6 ? 0 : 1 << (i - 6);
         if (w & step) continue;
-        uint64_t off = i < 6 ? j->table[w] & WITHOUT[i] : j->table[w];
-        uint64_t on = i < 6 ? j->table[w] >> (1 << i) & WITHOUT[i] : j->table[w | step];
-        rises[w] = on & ~off;
-        falls[w] = off & ~on;
+        rises[w] = i < 6 ? table[w] >> (1 << i) & zeros[w] & WITHOUT[i] : table[w | step] & zeros[w];
+        falls[w] = i < 6 ? zeros[w] >> (1 << i) & table[w] & WITHOUT[i] : zeros[w | step] & table[w];
     }
 }
 
@@ -84,17 +112,22 @@ static inline int lowest(const uint64_t *rows) {
     return 64 * w + __builtin_ctzll(rows[w]);
 }
 
-/* Makes the job fresh on its table: open, or binate with its four counts. */
+/* Makes the job fresh on its table: open, binate with its four counts, or found if no row is cared for. */
 static inline void fresh(Job *j) {
     int words = j->rows <= 64 ? 1 : j->rows >> 6;
+    uint64_t zeros[4], any = 0;
     memset(j->counts, 0, sizeof j->counts[0] * (size_t)(j->rows < 16 ? 16 : j->rows));
     memset(j->v, 0, sizeof j->v);
     memset(j->s, 0, sizeof j->s);
+    for (int w = 0; w < words; w++) {
+        zeros[w] = j->care[w] ^ j->table[w];
+        any |= j->care[w];
+    }
     j->k = 0;
-    j->stage = OPEN;
+    j->stage = any ? OPEN : FOUND;
     for (int i = 0; i < j->n; i++) {
         uint64_t rises[4] = {0}, falls[4] = {0};
-        changes_at(j, i, words, rises, falls);
+        changes_at(j->table, zeros, i, words, rises, falls);
         if (!(rises[0] | rises[1] | rises[2] | rises[3]) || !(falls[0] | falls[1] | falls[2] | falls[3])) continue;
         int up = lowest(rises), down = lowest(falls);
         j->counts[up]++;
@@ -165,6 +198,12 @@ static inline int16_t weights(const Job *j, int row) {
     return (int16_t)sum;
 }
 
+/* The lowest failing row of a fresh open job as 2 * row + value: the lowest cared for. */
+static inline unsigned first_code(const Job *j) {
+    int row = lowest(j->care);
+    return (unsigned)(2 * row + value(j, row));
+}
+
 /* Apart from the loop, for a job that is not fresh. */
 __attribute__((noinline)) static void start_again(const Job *j, int block, Start *start) {
     int r = 0, d;
@@ -173,12 +212,14 @@ __attribute__((noinline)) static void start_again(const Job *j, int block, Start
     start->w0 = packed(j, 0);
     start->w1 = packed(j, 1);
     while (start->mark <= j->k) start->mark *= 2;
-    while (d = start->low[r % block] + start->high[r / block], value(j, r) ? d > 0 : d < 0) r++;
+    while (d = start->low[r % block] + start->high[r / block], !cared(j, r) || (value(j, r) ? d > 0 : d < 0)) r++;
     start->c = (unsigned)(2 * r + value(j, r));
 }
 
 /* The rows are 16 to 256, in blocks of 16 or 32. The code of a row is 2 * row + value, so that a correction's sign needs no look at the
-   table, with the sign bit on a false row: (sign of d - value) xor code is negative on failing rows alone, and least on the lowest. */
+   table, with the sign bit on a false row: (sign of d - value) xor code is negative on failing rows alone, and least on the lowest. A row
+   not cared for has FAR in place of its value, which is more than any d, so it never fails. */
+enum { FAR = 1 << 14 };
 #define INLINE __attribute__((always_inline)) static inline
 #define BLOCK(rows) ((rows) < LOW_ROWS ? (rows) : LOW_ROWS)
 
@@ -196,12 +237,20 @@ INLINE int16_t first_failing_code(const int16_t *low, const int16_t *high, const
     return 0;
 }
 
+/* Sets FAR on the rows not cared for, 16 rows at a time. */
+INLINE void set_far(const Job *j, int16_t *one, const int rows) {
+    for (int h = 0; h < rows; h += 16) {
+        int16_t care = (int16_t)(j->care[h >> 6] >> (h & 63));
+        for (int q = 0; q < 16; q++) one[h + q] = care & (int16_t)(1 << q) ? one[h + q] : FAR;
+    }
+}
+
 INLINE void carry_on_rows(Job *j, uint32_t budget, const int rows) {
     const int block = BLOCK(rows), blocks = rows / block;
     int16_t low[LOW_ROWS] __attribute__((aligned(64))), high[8];
     int16_t one[256] __attribute__((aligned(64))), code[256] __attribute__((aligned(64)));
     uint32_t *counts = j->counts, k = j->k, end = k + budget;
-    Start start = {.mark = 1, .c = (unsigned)value(j, 0)};
+    Start start = {.mark = 1, .c = first_code(j)};
     if (k) start_again(j, block, &start);
     for (int q = 0; q < block; q++) low[q] = start.low[q];
     for (int h = 0; h < blocks; h++) high[h] = start.high[h];
@@ -209,6 +258,7 @@ INLINE void carry_on_rows(Job *j, uint32_t budget, const int rows) {
         one[q] = (int16_t)value(j, q);
         code[q] = (int16_t)(2 * q | (one[q] ? 1 : INT16_MIN));
     }
+    if (!cares_for_every_row(j, __builtin_ctz((unsigned)rows))) set_far(j, one, rows);
     uint64_t w0 = start.w0, w1 = start.w1;
     uint32_t mark = start.mark;
     unsigned c = start.c;
@@ -238,14 +288,18 @@ INLINE void carry_on_rows(Job *j, uint32_t budget, const int rows) {
 /* Carries an open job on. A table of fewer than four inputs is repeated to 16 rows: an input that changes nothing keeps weight 0, for the
    lowest failing row is never one in which it is true. */
 static inline void carry_on(Job *j, uint32_t budget) {
-    uint64_t first = j->table[0];
+    uint64_t first = j->table[0], first_care = j->care[0];
     switch (j->n) {
     case 8: carry_on_rows(j, budget, 256); return;
     case 7: carry_on_rows(j, budget, 128); return;
     case 6: carry_on_rows(j, budget, 64); return;
     case 5: carry_on_rows(j, budget, 32); return;
     }
-    for (int i = j->n; i < 4; i++) j->table[0] |= j->table[0] << (1 << i);
+    for (int i = j->n; i < 4; i++) {
+        j->table[0] |= j->table[0] << (1 << i);
+        j->care[0] |= j->care[0] << (1 << i);
+    }
     carry_on_rows(j, budget, 16);
     j->table[0] = first;
+    j->care[0] = first_care;
 }

@@ -1,25 +1,40 @@
 /* Plain C to compare the product with:
 
-     plain lanes < records    the report, by the form "lanes" of machine.h
+     plain lanes < records    the report of tables of kinds 1 and 5, by the form "lanes" of machine.h
      plain naive < records    the report, by the machine as document 01 reads: distances summed anew, searches for step 1 and for step 5
      plain ways < heads       the line of the program bench_main: a head's kind byte is 1 for one call of carry-on, 2 for calls of 64, and 3
-                              for calls of 64 with the job saved and read back after each that leaves it open; by the form "lanes"
+                              for calls of 64 with the job saved and read back after each that leaves it open; by the form "lanes",
+                              on tables with every row cared for
 
    Unlike the product, it tests no job for soundness, in no call, and what it reads back is tested for the form of its fields alone. */
 #include "machine.h"
 
 /* ---- the machine as document 01 reads ---- */
 
+static int fails(const Job *j, int row) {
+    int32_t d = -j->v[8];
+    if (!cared(j, row)) return 0;
+    for (int i = 0; i < j->n; i++)
+        if (row >> i & 1) d += j->v[i];
+    return value(j, row) ? d < 1 : d > -1;
+}
+
+static int first_failing(const Job *j) {
+    for (int r = 0; r < j->rows; r++)
+        if (fails(j, r)) return r;
+    return -1;
+}
+
 static void fresh_naive(Job *j) {
     memset(j->counts, 0, sizeof j->counts);
     memset(j->v, 0, sizeof j->v);
     memset(j->s, 0, sizeof j->s);
     j->k = 0;
-    j->stage = OPEN;
+    j->stage = first_failing(j) < 0 ? FOUND : OPEN;
     for (int i = 0; i < j->n; i++) {
         int up = -1, down = -1;
         for (int r = 0; r < j->rows; r++) {
-            if (r >> i & 1) continue;
+            if (r >> i & 1 || !cared(j, r) || !cared(j, r | 1 << i)) continue;
             int off = value(j, r), on = value(j, r | 1 << i);
             if (up < 0 && !off && on) up = r;
             if (down < 0 && off && !on) down = r;
@@ -32,19 +47,6 @@ static void fresh_naive(Job *j) {
         j->stage = BINATE;
         return;
     }
-}
-
-static int fails(const Job *j, int row) {
-    int32_t d = -j->v[8];
-    for (int i = 0; i < j->n; i++)
-        if (row >> i & 1) d += j->v[i];
-    return value(j, row) ? d < 1 : d > -1;
-}
-
-static int first_failing(const Job *j) {
-    for (int r = 0; r < j->rows; r++)
-        if (fails(j, r)) return r;
-    return -1;
 }
 
 static void carry_on_naive(Job *j, uint32_t budget) {
@@ -147,7 +149,7 @@ static void report(const uint8_t *bytes, size_t length, const Form *form) {
     static Job j;
     uint64_t records = 0, ended[4] = {0}, sum = 0;
     for (size_t at = 0; at < length; records++) {
-        int kind, refusal = read_head(bytes, length, &at, 1, &kind, &j);
+        int kind, refusal = read_head(bytes, length, &at, KIND(1) | KIND(5), &kind, &j);
         if (refusal) {
             put(0, (int64_t)records + 1, ' ');
             *end++ = 'R';
@@ -215,7 +217,7 @@ static int read_vector(const uint8_t *bytes, size_t length, size_t *at, int n, i
 static int read_back(const uint8_t *bytes, size_t length, Job *j) {
     size_t at = 0;
     uint32_t pairs, row, next = 0;
-    int kind, refusal = read_head(bytes, length, &at, 4, &kind, j);
+    int kind, refusal = read_head(bytes, length, &at, KIND(4), &kind, j);
     if (refusal) return refusal;
     memset(j->v, 0, sizeof j->v);
     memset(j->s, 0, sizeof j->s);
@@ -239,7 +241,7 @@ static void ways(const uint8_t *bytes, size_t length) {
     static uint8_t saved[1300];
     uint64_t tables = 0, ended[4] = {0}, corrections = 0, calls = 0, saved_bytes = 0;
     int way;
-    for (size_t at = 0; !read_head(bytes, length, &at, 3, &way, &j); tables++) {
+    for (size_t at = 0; !read_head(bytes, length, &at, KIND(1) | KIND(2) | KIND(3), &way, &j); tables++) {
         fresh(&j);
         calls += way == 1; /* bench_main calls carry-on once for a binate table too */
         if (way == 1 && j.stage == OPEN) carry_on(&j, CALL_BUDGET);

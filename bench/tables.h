@@ -1,4 +1,4 @@
-/* Random tables for the benchmarks, by a seed: gates, unate tables, and those without a gate. */
+/* Random tables for the benchmarks, by a seed: gates, unate tables, those without a gate, and rows left free. */
 #include "machine.h"
 
 static uint64_t state;
@@ -15,6 +15,7 @@ static inline void clear(Job *j, int n) {
     memset(j->table, 0, sizeof j->table);
     j->n = n;
     j->rows = 1 << n;
+    care_for_every_row(j);
 }
 
 static inline void turn(Job *j, int row) { j->table[row >> 6] ^= (uint64_t)1 << (row & 63); }
@@ -71,4 +72,33 @@ static inline int unate_without_gate(Job *j, int n) {
     if (!uses_all_inputs(j)) return 0;
     decide(j);
     return j->stage == LOOPED;
+}
+
+/* ---- partial tables ---- */
+
+static inline void leave_free(Job *j, int row) {
+    uint64_t others = ~((uint64_t)1 << (row & 63));
+    j->table[row >> 6] &= others;
+    j->care[row >> 6] &= others;
+}
+
+/* Leaves the rows free on which two or three random inputs have random values. */
+static inline void free_cube(Job *j) {
+    int inputs = 0, count = 2 + below(2), values = below(j->rows);
+    while (__builtin_popcount((unsigned)inputs) < count) inputs |= 1 << below(j->n);
+    for (int r = 0; r < j->rows; r++)
+        if (!((r ^ values) & inputs)) leave_free(j, r);
+}
+
+/* Leaves some rows of a table of at least three inputs free: one or two cubes, or each row with a chance of 1/16, 1/8, 1/4 or 1/2. */
+static inline void free_rows(Job *j) {
+    if (below(2)) {
+        for (int cubes = 1 + below(2); cubes; cubes--) free_cube(j);
+        return;
+    }
+    int chance = 2 << below(4);
+    do
+        for (int r = 0; r < j->rows; r++)
+            if (!below(chance)) leave_free(j, r);
+    while (cares_for_every_row(j, j->n));
 }
