@@ -1,5 +1,5 @@
--- Gates and witnesses as numbers in lent arrays: from a record, and into one (docs/FORMAT.md, "Calls"). No document has these
--- calls, and their own number is 104. Definitions only. Assumes nothing.
+-- Gates and witnesses as numbers in lent arrays: from a record, into one, and checked against a table (docs/FORMAT.md, "Calls"). No document
+-- has these calls, and their own number is 104. Definitions only. Assumes nothing.
 use mathlib.Core.Path.{_≡_}
 use mathlib.Core.Bool.{not}
 use mathlib.Core.List.{List, [], _∷_}
@@ -12,9 +12,10 @@ use Rattle.types.specs.declared.gate.Gate.{Gate}
 use Rattle.types.specs.declared.witness.Witness.{Witness}
 use Rattle.table.specs.Table.{rows, padded}
 use Rattle.cell.specs.Refusal.{Rule, rule, Answered, answered, refused, checked, andThen}
+use Rattle.cell.specs.Calls.{checkGate, checkWitness}
 use Rattle.records.specs.Record.{ofGate, ofWitness}
 use Rattle.writers.specs.Calls.{tooShort, writeRecord}
-use Rattle.results.specs.Result.{Returned}
+use Rattle.results.specs.Result.{said, Returned}
 
 -- ---- from a record
 
@@ -49,7 +50,7 @@ otherCount xs m = rule 104 (not (eqb (length xs) m))
 abbrev pub gateWith : Table → List ℤ → ℤ → Gate
 gateWith t ws threshold = record { n = t .n; weights = padded 8 (pos 0) ws; threshold = threshold }
 
--- its record, of a table that keeps its rules: 104, 7, 12
+-- its record, of a table that keeps its rules: 104, 16, 7, 12
 abbrev pub fromGate : Table → List ℤ → ℤ → ℕ → Answered (List ℕ)
 fromGate t ws threshold room = checked (otherCount ws (t .n) ∷ []) (writeRecord (ofGate t (gateWith t ws threshold)) room)
 
@@ -57,6 +58,16 @@ fromGate t ws threshold room = checked (otherCount ws (t .n) ∷ []) (writeRecor
 abbrev pub witnessWith : List ℕ → Witness
 witnessWith cs = record { counts = padded 256 0 cs }
 
--- its record with a table that keeps its rules: 104, 8, 12
+-- its record with a table that keeps its rules: 104, 16, 8, 12
 abbrev pub fromWitness : Table → List ℕ → ℕ → Answered (List ℕ)
 fromWitness t cs room = checked (otherCount cs (rows t) ∷ []) (writeRecord (ofWitness t (witnessWith cs)) room)
+
+-- ---- checked
+
+-- whether the gate of these numbers agrees with a table that keeps its rules on every row that is cared for: 104, 7
+abbrev pub checkGateWith : Table → List ℤ → ℤ → Answered ℕ
+checkGateWith t ws threshold = checked (otherCount ws (t .n) ∷ []) (said (checkGate t (gateWith t ws threshold)))
+
+-- whether these counts balance against a table that keeps its rules: 104, 8
+abbrev pub checkWitnessWith : Table → List ℕ → Answered ℕ
+checkWitnessWith t cs = checked (otherCount cs (rows t) ∷ []) (said (checkWitness t (witnessWith cs)))

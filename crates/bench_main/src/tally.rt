@@ -3,6 +3,7 @@ use crate::ways;
 use crate::ways::Work;
 use cell::refusal::Status;
 use libc::STDOUT_FILENO;
+use reading::kind::KindByte;
 use reading::kind::Takes;
 use reading::kind::read_kind;
 use reading::tables::read_table;
@@ -53,8 +54,12 @@ fn with_work(tally: Tally, work: Work) -> Tally {
     next
 }
 
-// Returns the way that a kind stands for in the heads, 0 for none.
-fn way_of(kind: Kind) -> u8 {
+// Returns the way that a kind byte stands for in the heads; 0 for none, as of a kind whose tables have care bytes.
+fn way_of(said: KindByte) -> u8 {
+    if said.cares {
+        return 0;
+    }
+    let kind = said.kind;
     match kind {
         Kind::Table => 1,
         Kind::Gate => 2,
@@ -70,12 +75,12 @@ pub fn of(heads: &[u8]) -> Tally {
     let mut left = heads.len();
     while 0 < left {
         let field = read_kind(heads, at, Takes::Every);
-        let kind = field.kind;
-        let way = way_of(kind);
+        let said = field.said;
+        let way = way_of(said);
         if way == 0 {
             return tally;
         }
-        let head = read_table(heads, field.next);
+        let head = read_table(heads, field.next, false);
         let status = head.status;
         if let Status::Refused(_) = status {
             return tally;

@@ -19,8 +19,8 @@ use Rattle.codec.proofs.WeightLaws.{weights-most, vector-parts}
 use Rattle.codec.proofs.PairLaws.{row-list-bytes}
 use Rattle.writing.proofs.TableParts.{table-most}
 use Rattle.rowlists.proofs.RowParts.{pairs-most}
-use Rattle.records.specs.Record.{Record, ofTable, ofGate, ofWitness, ofJob, gateVector, numbersBytes, jobBytes, bodyBytes, recordBytes}
-use Rattle.bodies.proofs.RecordParts.{tableIn, restBytes, kind-and-body, body-parts}
+use Rattle.records.specs.Record.{Record, ofTable, ofGate, ofWitness, ofJob, tableIn, gateVector, numbersBytes, jobBytes, bodyBytes, recordBytes}
+use Rattle.bodies.proofs.RecordParts.{restBytes, kind-and-body, body-parts}
 
 -- ---- a table's body, and a job's
 

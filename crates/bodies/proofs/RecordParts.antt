@@ -12,7 +12,7 @@ use Rattle.numbers.proofs.TestLaws.{no-true, all-at-most-from}
 use Rattle.types.specs.declared.table.Table.{Table}
 use Rattle.types.specs.declared.gate.Gate.{Gate}
 use Rattle.types.specs.declared.witness.Witness.{Witness}
-use Rattle.table.specs.Table.{rows}
+use Rattle.table.specs.Table.{rows, spareSet}
 use Rattle.table.specs.Gate.{weightLimit, inRange}
 use Rattle.table.specs.Witness.{unfit, countLimit}
 use Rattle.function.proofs.RangeLaws.{in-range-correct, in-range-wider}
@@ -25,26 +25,27 @@ use Rattle.codec.specs.VectorField.{vectorBytes}
 use Rattle.codec.specs.RowList.{rowListBytes}
 use Rattle.cell.specs.Refusal.{Rule, NoneBroken, also}
 use Rattle.cell.specs.Calls.{tableRules, gateRange, gateRules, witnessRange, witnessRules}
-use Rattle.cell.proofs.TableChecked.{others-kept}
-use Rattle.codec.specs.Kind.{kindOf}
+use Rattle.cell.proofs.TableChecked.{kept-cares, others-kept}
+use Rattle.codec.specs.Kind.{headKind}
 use Rattle.codec.specs.TableField.{tableBytes}
-use Rattle.records.specs.Record.{Record, ofTable, ofGate, ofWitness, ofJob, family, gateVector, jobBytes, bodyBytes, recordBytes}
+use Rattle.codec.proofs.TableFieldLaws.{Held}
+use Rattle.records.specs.Record.{Record, ofTable, ofGate, ofWitness, ofJob, tableIn, headIn, gateVector, jobBytes, bodyBytes, recordBytes}
 
--- the arrays of a record have the lengths of the code's types, as every value of those types has; a sound job's others are part of
+-- the arrays of a record are as those of the code's types, as every value of those types has them; a sound job's others are part of
 -- soundness
 abbrev pub Shaped : Record → Type 0
-Shaped (ofTable t) = length (t .bytes) ≡ 32
-Shaped (ofGate t g) = (length (t .bytes) ≡ 32) × (length (g .weights) ≡ 8)
-Shaped (ofWitness t w) = (length (t .bytes) ≡ 32) × (length (w .counts) ≡ 256)
-Shaped (ofJob j) = length (j .table .bytes) ≡ 32
+Shaped (ofTable t) = Held t
+Shaped (ofGate t g) = Held t × (length (g .weights) ≡ 8)
+Shaped (ofWitness t w) = Held t × (length (w .counts) ≡ 256)
+Shaped (ofJob j) = Held (j .table)
 
--- the table that a record begins with, and what follows it
-abbrev pub tableIn : Record → Table
-tableIn (ofTable t) = t
-tableIn (ofGate t g) = t
-tableIn (ofWitness t w) = t
-tableIn (ofJob j) = j .table
+pub held : (x : Record) → Shaped x → Held (tableIn x)
+held (ofTable t) h = h
+held (ofGate t g) (h, weights) = h
+held (ofWitness t w) (h, counts) = h
+held (ofJob j) h = h
 
+-- what follows the table that a record begins with
 abbrev pub restBytes : Record → List ℕ
 restBytes (ofTable t) = []
 restBytes (ofGate t g) = vectorBytes (t .n) (gateVector g)
@@ -52,7 +53,7 @@ restBytes (ofWitness t w) = rowListBytes (w .counts)
 restBytes (ofJob j) = jobBytes j
 
 -- a record is its kind byte and its body, and a body is the table and the rest
-pub kind-and-body : (x : Record) → recordBytes x ≡ (kindOf (family x) ∷ []) ++ bodyBytes x
+pub kind-and-body : (x : Record) → recordBytes x ≡ (headKind (headIn x) ∷ []) ++ bodyBytes x
 unfolding recordBytes
 kind-and-body x = refl
 
@@ -89,6 +90,10 @@ fit t w e =
 
 pub same-inputs : (t : Table) (g : Gate) {others : List Rule} → NoneBroken (gateRules t g others) → (g .n ≡ t .n) × NoneBroken (tableRules t (gateRange g ∷ others))
 same-inputs t g (also b rest) = (eqb-true (g .n) (t .n) (not-false _ b), rest)
+
+-- the table's care bits have no spare one
+pub gate-cares : (t : Table) (g : Gate) {others : List Rule} → NoneBroken (gateRules t g others) → spareSet (t .n) (t .cares) ≡ false
+gate-cares t g kept = kept-cares t (same-inputs t g kept .1)
 
 in-limits : (g : Gate) {others : List Rule} → NoneBroken (gateRange g ∷ others) → inRange weightLimit (g .n) (g .weights) (g .threshold) ≡ true
 in-limits g (also b rest) = not-false _ b

@@ -15,7 +15,7 @@ ghost use mathlib.Core.Path.{_≡_};
 ghost use Rattle.cell.specs.Answers.{answer, status};
 ghost use Rattle.cell.specs.Calls.{gateChecked, witnessChecked, checkGate, checkWitness};
 
-// Returns whether the table and the gate beside it keep their formats, or their refusal: 2, 3, then 7.
+// Returns whether the table and the gate beside it keep their formats, or their refusal: 2, 3, 16, then 7.
 pub fn gate_status(table: Table, gate: Gate) -> Status
     ensures { λ r. ⌜ r ≡ status (gateChecked table gate) ⌝ }
 {
@@ -32,7 +32,7 @@ pub fn gate_status(table: Table, gate: Gate) -> Status
     Status::Done
 }
 
-// Returns whether the table and the witness beside it keep their formats, or their refusal: 2, 3, then 8.
+// Returns whether the table and the witness beside it keep their formats, or their refusal: 2, 3, 16, then 8.
 pub fn witness_status(table: Table, witness: Witness) -> Status
     ensures { λ r. ⌜ r ≡ status (witnessChecked table witness) ⌝ }
 {
@@ -46,7 +46,7 @@ pub fn witness_status(table: Table, witness: Witness) -> Status
     Status::Done
 }
 
-// Says whether the gate agrees with the table on every row. Refusals: 2, 3, 7.
+// Says whether the gate agrees with the table on every row that is cared for. Refusals: 2, 3, 16, 7.
 pub fn check_gate(table: Table, gate: Gate) -> Answer
     ensures { λ r. ⌜ r ≡ answer (checkGate table gate) ⌝ }
 {
@@ -57,7 +57,7 @@ pub fn check_gate(table: Table, gate: Gate) -> Answer
     as_answer(gate_realises(table, gate))
 }
 
-// Says whether the witness balances, after which no gate realises the table. Refusals: 2, 3, 8.
+// Says whether the witness balances, after which no gate realises the table. Refusals: 2, 3, 16, 8.
 pub fn check_witness(table: Table, witness: Witness) -> Answer
     ensures { λ r. ⌜ r ≡ answer (checkWitness table witness) ⌝ }
 {

@@ -13,7 +13,7 @@ pub struct Chow {
     pub q: [i32; 8],
 }
 
-// Returns q of each input, twice the true rows in which it is true less all true rows; past n 0. Refusals: 2, 3.
+// Returns q of each input, twice the true rows in which it is true less all true rows; past n 0. Refusals: 2, 3, 16.
 pub fn chow_parameters(table: Table) -> Chow
     ensures { λ r. ⌜ r ≡ chow (chowParameters table) ⌝ }
 {

@@ -15,7 +15,7 @@ pub struct Kinds {
     pub places: [Place; 8],
 }
 
-// Returns the kind of each input: idle, rising, falling or binate; past n idle. Refusals: 2, 3.
+// Returns the kind of each input: idle, rising, falling or binate; past n idle. Refusals: 2, 3, 16.
 pub fn input_kinds(table: Table) -> Kinds
     ensures { λ r. ⌜ r ≡ kinds (inputKinds table) ⌝ }
 {

@@ -13,7 +13,7 @@ ghost use mathlib.Core.Path.{_≡_};
 ghost use Rattle.cell.specs.Answers.{answer};
 ghost use Rattle.cell.specs.Calls.{tableValue, gateValue};
 
-// Returns the table's value on a row. Refusals: 2, 3, 14.
+// Returns the table's value on a row. Refusals: 2, 3, 16, 14.
 pub fn table_value(table: Table, row: usize) -> Answer
     ensures { λ r. ⌜ r ≡ answer (tableValue table row) ⌝ }
 {

@@ -7,12 +7,16 @@ use records::read::Read;
 use results::result::not_taken;
 use results::result::refusal;
 use results::result::yes_or_no;
+use table::table::is_whole;
 use types::kind::Kind;
 ghost use mathlib.Core.Path.{_≡_};
+ghost use mathlib.Core.List.{[]};
+ghost use Rattle.cell.specs.Refusal.{NoneBroken};
+ghost use Rattle.cell.specs.Calls.{tableRules};
 ghost use Rattle.results.specs.Result.{asResult};
 ghost use Rattle.certificates.specs.Certificate.{checkIn, kindIn, valueIn};
 
-// Returns 1 if the gate realises its table, or the witness balances, and 0 if not. Refusals: those of reading, 100 for another kind.
+// Returns 1 if the gate agrees with its table, or the witness balances, and 0 if not. Refusals: those of reading, 100 for another kind.
 pub fn check_read(given: Read) -> i64
     ensures { λ r. ⌜ r ≡ asResult (checkIn given) ⌝ }
 {
@@ -24,16 +28,17 @@ pub fn check_read(given: Read) -> i64
     }
 }
 
-// Returns the kind, 1 to 4. Refusals: those of reading.
+// Returns the kind, 1 to 6: where a row of the table is not cared for, a table is 5 and a job 6. Refusals: those of reading.
 pub fn kind_read(given: Read) -> i64
+    requires { ⌜ NoneBroken (tableRules (given .table) []) ⌝ }
     ensures { λ r. ⌜ r ≡ asResult (kindIn given) ⌝ }
 {
     let kind = given.kind;
     match kind {
-        Kind::Table => 1,
+        Kind::Table => if is_whole(given.table) { 1 } else { 5 },
         Kind::Gate => 2,
         Kind::Witness => 3,
-        Kind::Job => 4,
+        Kind::Job => if is_whole(given.table) { 4 } else { 6 },
         Kind::Refused(number) => refusal(number),
     }
 }

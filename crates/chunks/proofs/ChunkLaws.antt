@@ -46,7 +46,7 @@ pub record Begun (t : Table) (start : State) (budget : ℕ) : Type 0 where
   pub inputs : t .n ≤ 8
   pub sound : Sound (functionOf t) start
   pub capped : start .k + budget ≤ cap
-  pub few : budget ≤ 2000
+  pub few : budget ≤ 750
 
 -- `made` of the budget's steps are made, and `next` is what the search by v found
 pub record Passed (t : Table) (start : State) (budget made : ℕ) (x : State) (sums copy : List ℤ) (next : ℕ) : Type 0 where
@@ -68,10 +68,10 @@ module _ {t : Table} {start : State} {budget : ℕ} (b : Begun t start budget) w
     bounded = let few : start .k + m ≤ cap = omega (arith, b .capped) in unsettled-bounded (b .inputs) (b .sound) few (c .unsettled)
 
     -- the sums fit their places
-    pub follows-narrow : Narrow 32000 sums × (getD sums 32 (pos 0) ≡ pos 0)
+    pub follows-narrow : Narrow 16000 sums × (getD sums 32 (pos 0) ≡ pos 0)
     follows-narrow =
-        subst (λ (l : List ℤ). Narrow 32000 l × (getD l 32 (pos 0) ≡ pos 0)) (sym (c .current))
-        (sums-narrow (c .v) 32000 (bounded .shaped .weights) (omega (arith, c .small, b .few)), sums-first (c .v))
+        subst (λ (l : List ℤ). Narrow 16000 l × (getD l 32 (pos 0) ≡ pos 0)) (sym (c .current))
+        (sums-narrow (c .v) 16000 (bounded .shaped .weights) (omega (arith, c .small, b .few)), sums-first (c .v))
 
     -- the search by the sums is the search by v
     pub follows-passed : {next : ℕ} → Searches t sums next → Passed t start budget m x sums copy next
@@ -173,7 +173,7 @@ module _ {t : Table} {start : State} {budget : ℕ} (b : Begun t start budget) w
         u-sums : later ≡ vectorSums u
         u-sums = w v sign row (passed-bounded .shaped .weights) passed-row coded (pass .follows .current)
 
-        u-small : magnitude u ≤ 14000 + 9 * (m + 1)
+        u-small : magnitude u ≤ 9000 + 9 * (m + 1)
         u-small = omega (arith, magnitude-corrected sign row v (passed-bounded .shaped .weights), pass .follows .small)
 
         module _ {same : Bool} (compares : Compares t later copy same) where

@@ -39,10 +39,10 @@ pub record Follows (t : Table) (start : State) (m : ℕ) (x : State) (sums copy 
   pub current : sums ≡ vectorSums v
   pub copied : copy ≡ vectorSums s
   pub unsettled : Unsettled t start m (withVectors v s x)
-  pub small : magnitude v ≤ 14000 + 9 * m
+  pub small : magnitude v ≤ 9000 + 9 * m
 
 -- the sums of a sound open state, where the loop begins
-pub follows-start : {t : Table} {x : State} {sums copy : List ℤ} → Sound (functionOf t) x → x .stage ≡ Stage′.Open → magnitude (x .v) ≤ 14000
+pub follows-start : {t : Table} {x : State} {sums copy : List ℤ} → Sound (functionOf t) x → x .stage ≡ Stage′.Open → magnitude (x .v) ≤ 9000
     → sums ≡ vectorSums (x .v) → copy ≡ vectorSums (x .s) → Follows t x 0 x sums copy
 follows-start {x = x} sound e small current copied = record {
   v = x .v;

@@ -24,7 +24,7 @@ ghost use Rattle.machine.specs.Core.{stateOf};
 ghost use Rattle.table.specs.Table.{functionOf};
 
 // The most steps of a chunk.
-pub const CHUNK: u32 = 2000;
+pub const CHUNK: u32 = 750;
 
 // Sets the counts of so many rows to 0.
 fn clear(counts: &mut [u32; 256], rows: usize)
@@ -52,7 +52,7 @@ fn stage_of(next: usize) -> Stage
     Stage::Looped
 }
 
-// Carries a state on by at most 2,000 steps, or to its end; its core and its counts are apart, so that the counts stay where they are. The
+// Carries a state on by at most 750 steps, or to its end; its core and its counts are apart, so that the counts stay where they are. The
 // numbers of v and s are small enough for places of 16 bits. `steps` is the table of steps. A mark clears the counts of the table's rows:
 // the others are 0.
 pub fn chunk(
@@ -63,7 +63,7 @@ pub fn chunk(
     steps: &[i16; 2048],
 ) -> Core
     requires { ⌜ (table .n ≤ 8) × Sound (functionOf table) (stateOf core (now counts)) × (core .stage ≡ Stage.Open) × (core .k + budget ≤ cap) ⌝ }
-    requires { ⌜ (budget ≤ 2000) × (magnitude (core .v) ≤ 14000) × (magnitude (core .s) ≤ 14000) × Holds stepAt 2048 (now steps) ⌝ }
+    requires { ⌜ (budget ≤ 750) × (magnitude (core .v) ≤ 9000) × (magnitude (core .s) ≤ 9000) × Holds stepAt 2048 (now steps) ⌝ }
     ensures { λ r. ⌜ stateOf r (now (counts .exit)) ≡ run (functionOf table) budget (stateOf core (now (counts .entry))) ⌝ }
 {
     let rows = row_count(table.n);

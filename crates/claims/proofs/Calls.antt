@@ -18,6 +18,7 @@ use Rattle.job.specs.Calls.{jobRules, budgetRange, pastCap, ifOpen, carried}
 use Rattle.job.proofs.MachineLaws.{found-ended, looped-ended, binate-ended, open-or-ended, run-zero, run-ended}
 use Rattle.job.proofs.Soundness.{run-sound-from}
 use Rattle.job.proofs.JobChecked.{job-others-kept}
+use Rattle.codec.proofs.TableFieldLaws.{Held}
 use Rattle.records.specs.Record.{Record, ofJob, recordBytes, readRecord}
 use Rattle.records.specs.Calls.{asRead}
 use Rattle.writers.specs.Calls.{written, lent}
@@ -149,9 +150,9 @@ carry-is m b = by (judged rules)
         ap (λ (a : Answered Job). afterCarry (carried m a)) (carry-in (m .state .stage) m b (run-ended b m) ∙ first-broken-refused rules (answered (run b m)) n first)
         ∙ sym (reply-broken m (carryOnBy b) n first)
 
-module _ (read-back : (j : Job) → length (j .table .bytes) ≡ 32 → ReadsBack (ofJob j)) where
+module _ (read-back : (j : Job) → Held (j .table) → ReadsBack (ofJob j)) where
   -- a save gives the machine's: what is read back is the job saved
-  save-is : (m : Job) (buffer : List ℕ) → length (m .table .bytes) ≡ 32 → called m (saveAndRead buffer) ≡ machineReply m (saveAndRead buffer)
+  save-is : (m : Job) (buffer : List ℕ) → Held (m .table) → called m (saveAndRead buffer) ≡ machineReply m (saveAndRead buffer)
   save-is m buffer l = by (judged rules)
     where
       rules : List Rule
@@ -172,6 +173,6 @@ module _ (read-back : (j : Job) → length (j .table .bytes) ≡ 32 → ReadsBac
           ∙ sym (reply-broken m (saveAndRead buffer) n first)
 
   -- a call gives the machine's reply, and the machine's job
-  pub called-is : (m : Job) (c : Call) → length (m .table .bytes) ≡ 32 → called m c ≡ machineReply m c
+  pub called-is : (m : Job) (c : Call) → Held (m .table) → called m c ≡ machineReply m c
   called-is m (carryOnBy b) l = carry-is m b
   called-is m (saveAndRead buffer) l = save-is m buffer l

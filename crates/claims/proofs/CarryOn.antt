@@ -29,12 +29,12 @@ ended-call Found j b h = refl
 ended-call Looped j b h = refl
 ended-call Binate j b h = refl
 
--- an open job goes by 2, 3, 9, 10 and 11
+-- an open job goes by 2, 3, 16, 9, 10 and 11
 pub carry-on-open : (j : Job) (b : ℕ) → j .state .stage ≡ Open → ByRules (jobRules j (budgetRange b ∷ pastCap j b ∷ [])) (run b j) (carryOn j b)
 carry-on-open j b e =
     subst (ByRules (jobRules j (budgetRange b ∷ pastCap j b ∷ [])) (run b j)) (sym (open-call (j .state .stage) j b e)) (by-rules (jobRules j (budgetRange b ∷ pastCap j b ∷ [])) (run b j))
 
--- an ended job goes by 2, 3, 9 and 10
+-- an ended job goes by 2, 3, 16, 9 and 10
 pub carry-on-ended : (j : Job) (b : ℕ) → j .state .stage ≢ Open → ByRules (jobRules j (budgetRange b ∷ [])) j (carryOn j b)
 carry-on-ended j b h =
     subst (ByRules (jobRules j (budgetRange b ∷ [])) j) (sym (ended-call (j .state .stage) j b h)) (by-rules (jobRules j (budgetRange b ∷ [])) j)

@@ -1,7 +1,7 @@
 -- What is decided is right: a job that keeps its rules is sound, so what it has come to is right by its stage, in whatever form it is
 -- shown. The report's lines go by induction over its records. Assumes nothing.
 use mathlib.Core.Path.{_≡_, refl, sym, _∙_, ap, subst}
-use mathlib.Core.Bool.{Bool, true, false, cond}
+use mathlib.Core.Bool.{Bool, true, false, not, cond}
 use mathlib.Core.Logic.{inl, inr}
 use mathlib.Core.List.{List, [], _∷_, _++_}
 use Prim.Native.Nat.{ℕ, zero, suc, _+_, _-_, _≤_, _<_}
@@ -12,7 +12,9 @@ use borrow.Author.Tests.{le-ltb, ltb-true, ltb-false}
 use Rattle.types.specs.declared.table.Table.{Table}
 use Rattle.types.specs.declared.stage.Stage.{Stage}
 use Rattle.types.specs.declared.stage.Stage.the-variants.{Open, Found, Looped, Binate}
-use Rattle.cell.specs.Refusal.{Answered, answered, refused, NoneBroken, andThen}
+use Rattle.numbers.proofs.TestLaws.{no-true}
+use Rattle.types.specs.declared.gate.Gate.{Gate}
+use Rattle.cell.specs.Refusal.{Rule, Answered, answered, refused, NoneBroken, also, andThen}
 use Rattle.cell.specs.Calls.{tableRules}
 use Rattle.cell.proofs.RefusalLaws.{answered-none-broken}
 use Rattle.cell.proofs.TableChecked.{kept-inputs, table-kept}
@@ -27,8 +29,10 @@ use Rattle.codec.specs.Field.{Reading}
 use Rattle.codec.specs.TableField.{tableRecordAt}
 use Rattle.codec.proofs.TableFieldLaws.{record-read}
 use Rattle.codec.proofs.StandsLaws.{AllBytes}
-use Rattle.records.specs.Record.{Record, ofTable, ofJob, recordBytes, readRecord}
-use Rattle.writers.specs.Calls.{recordRules, tooShort}
+use Rattle.records.specs.Record.{Record, ofTable, ofGate, ofWitness, ofJob, recordBytes, readRecord}
+use Rattle.records.specs.Calls.{asRead}
+use Rattle.results.specs.Result.{caseOf}
+use Rattle.writers.specs.Calls.{recordRules, tooShort, fitted}
 use Rattle.writers.proofs.WriteBack.{write-back}
 use Rattle.reporting.specs.declared.tally.Tally.{Tally}
 use Rattle.text.specs.Text.{decimal, spaced, lineFeed}
@@ -36,14 +40,17 @@ use Rattle.reporting.specs.Lines.{verdictText, recordLine, lastLine, tooLongLin
 use Rattle.reporting.specs.Report.{inputMost, noTally, counted, recordThen, reportFrom, report}
 use Rattle.job.proofs.DecidedLaws.{decided-table}
 use Rattle.theory.proofs.Answers.{EndedWithout, found-realises, found-accepted, ended-balances, ended-accepted, ended-excludes}
-use Rattle.outcome.specs.Outcome.{outcomeIn, outcome, outcomeWritten, Handed, handedBack}
+use Rattle.outcome.specs.Outcome.{outcomeIn, outcome, uncarried, outcomeWritten, Handed, takenWith, takenAfter, handedBack}
+use Rattle.arrays.specs.Arrays.{weightsOf, fittedGate, countsOf}
+use Rattle.findings.specs.Findings.{jobIn, jobFor, hasGate, hasWitness, notFound, gateFound, countsFound, findGate, findWitness}
 use Rattle.threshold.specs.Interface.{decide, carriedOn}
 use Rattle.requests.specs.Taken.{tableRead, jobRead}
 use Rattle.requests.proofs.TakenLaws.{is-table, is-job}
 use Rattle.outcome.proofs.DecidedLaws.{decided-kept, carried-kept}
 use Rattle.claims.specs.Jobs.{Taken}
-use Rattle.claims.specs.Decided.{RightWitness, Right, gate, witness, given-up, outcomeText, outcomeLine, RightLine, RightLines, table, refusal, last, RightHanded, DecidedIsRight}
+use Rattle.claims.specs.Decided.{RightGate, RightWitness, RightFound, RightCounts, Begins, of-table, of-job, Right, gate, witness, given-up, outcomeText, outcomeLine, RightLine, RightLines, table, refusal, last, RightHanded, DecidedIsRight}
 use Rattle.claims.proofs.CarryOn.{carried-on}
+use Rattle.claims.proofs.Rules.{rules-answered}
 
 -- ---- an outcome
 
@@ -136,37 +143,122 @@ read-taken s bytes t e =
     let x = ofTable t in
     table-kept t (answered-none-broken (recordRules x (tooShort (length s) (recordBytes x) ∷ [])) (recordBytes x) s (write-back s bytes x e (length s) (omega arith)) .0)
 
+-- what is taken of a run, with what K grew by
+taken-with : {A : Type 0} (takes : Job → Answered A) (j : Job) (b : ℕ) (h : Handed A) → takenWith takes j (run b j) ≡ answered h
+    → (takes (run b j) ≡ answered (h .value)) × (h .made + j .state .k ≡ (run b j) .state .k)
+taken-with {A} takes j b h e =
+    let m = run b j in
+    let (x, ex, eh) = and-then (takes m) _ h e in
+    let same : record { value = x; made = m .state .k - j .state .k } ≡ h = cc in
+    (ex ∙ ap (λ (g : Handed A). answered (g .value)) same, ap (λ (g : Handed A). g .made + j .state .k) (sym same) ∙ omega (arith, run-grows j b))
+
 -- what is handed back of a run is right
-right-handed : (t : Table) (j : Job) (b room : ℕ) (h : Handed) → j .table ≡ t → NoneBroken (jobRules (run b j) [])
+right-handed : (t : Table) (j : Job) (b room : ℕ) (h : Handed (List ℕ)) → j .table ≡ t → NoneBroken (jobRules (run b j) [])
     → handedBack room j (run b j) ≡ answered h → RightHanded t j (run b j) h
 right-handed t j b room h e kept handed =
     let m = run b j in
-    let (bytes, ew, eh) = and-then (outcomeWritten room m) _ h handed in
-    let written = answered-none-broken (tooShort room (recordBytes (outcome m)) ∷ []) (recordBytes (outcome m)) bytes ew .1 in
-    let back : RightHanded t j m (record { bytes = bytes; made = m .state .k - j .state .k }) = record {
-      bytes = subst (Right t m recordBytes) written (right-outcome m kept t recordBytes (run-table b j ∙ e));
-      made = omega (arith, run-grows j b);
-    } in
-    subst (RightHanded t j m) (cc) back
+    let (took, made) = taken-with (outcomeWritten room) j b h handed in
+    let (carried, fits) = rules-answered (uncarried (m .state .stage) (m .table) ∷ []) (fitted room (recordBytes (outcome m))) (h .value) took in
+    let written = answered-none-broken (tooShort room (recordBytes (outcome m)) ∷ []) (recordBytes (outcome m)) (h .value) fits .1 in
+    record { bytes = subst (Right t m recordBytes) written (right-outcome m kept t recordBytes (run-table b j ∙ e)); made = made }
+
+-- ---- the gates and counts that are found
+
+-- a job that has a gate has found it
+has-gate : (x : Stage) → not (hasGate x) ≡ false → x ≡ Found
+has-gate Open e = absurd (no-true (sym e))
+has-gate Found e = refl
+has-gate Looped e = absurd (no-true (sym e))
+has-gate Binate e = absurd (no-true (sym e))
+
+has-witness : (m : Job) (x : Stage) → m .state .stage ≡ x → not (hasWitness x) ≡ false → EndedWithout m
+has-witness m Open s e = absurd (no-true (sym e))
+has-witness m Found s e = absurd (no-true (sym e))
+has-witness m Looped s e = inl s
+has-witness m Binate s e = inr s
+
+first-kept : {r : Rule} → NoneBroken (r ∷ []) → r .broken ≡ false
+first-kept (also kept rest) = kept
+
+module _ (j : Job) (b : ℕ) (kept : NoneBroken (jobRules (run b j) [])) where
+  abbrev m : Job
+  m = run b j
+
+  right-gate-found : (room : ℕ) (h : Handed Gate) → takenWith (gateFound room) j m ≡ answered h → RightFound j m Gate (RightGate (j .table)) h
+  right-gate-found room h e =
+      let (took, made) = taken-with (gateFound room) j b h e in
+      let (has, fits) = rules-answered (notFound (hasGate (m .state .stage)) ∷ []) (fittedGate room (gateOf m)) (h .value) took in
+      let same = answered-none-broken (tooShort room (weightsOf (gateOf m)) ∷ []) (gateOf m) (h .value) fits .1 in
+      let found = has-gate (m .state .stage) (first-kept has) in
+      let right : RightGate (m .table) (gateOf m) = record {
+        realises = found-realises m (sound m kept) found;
+        accepted = found-accepted m (sound m kept) (taken m kept) found;
+      } in
+      record { found = subst (λ (t : Table). RightGate t (h .value)) (run-table b j) (subst (RightGate (m .table)) same right); made = made }
+
+  right-counts-found : (room : ℕ) (h : Handed (List ℕ)) → takenWith (countsFound room) j m ≡ answered h → RightFound j m (List ℕ) (RightCounts (j .table)) h
+  right-counts-found room h e =
+      let (took, made) = taken-with (countsFound room) j b h e in
+      let counts = countsOf (m .table) (witnessOf m) in
+      let (has, fits) = rules-answered (notFound (hasWitness (m .state .stage)) ∷ []) (fitted room counts) (h .value) took in
+      let same = answered-none-broken (tooShort room counts ∷ []) counts (h .value) fits .1 in
+      let right : RightCounts (m .table) (h .value) = (witnessOf m, sym same, right-witness m kept (has-witness m (m .state .stage) refl (first-kept has))) in
+      record { found = subst (λ (t : Table). RightCounts t (h .value)) (run-table b j) right; made = made }
+
+-- the job of a record is that of what was read
+begins : (s : List ℕ) (r : Answered Record) → readRecord s ≡ r → (j : Job) → jobIn (asRead r) ≡ answered j → Begins s j
+unfolding caseOf
+begins s (answered (ofTable t)) e j k = let same : fresh t ≡ j = cc in subst (Begins s) same (of-table t e)
+begins s (answered (ofGate t g)) e j k = let z : _≡_ {A = ℕ} 0 1 = cc in absurd (omega arith)
+begins s (answered (ofWitness t w)) e j k = let z : _≡_ {A = ℕ} 0 1 = cc in absurd (omega arith)
+begins s (answered (ofJob i)) e j k = let same : i ≡ j = cc in subst (Begins s) same (of-job i e)
+begins s (refused n) e j k = let z : _≡_ {A = ℕ} 0 1 = cc in absurd (omega arith)
 
 module _ (s : List ℕ) (all : AllBytes s) where
-  right-decide : (room : ℕ) (h : Handed) → decide s room ≡ answered h
+  right-decide : (room : ℕ) (h : Handed (List ℕ)) → decide s room ≡ answered h
       → (t : Table) × (readRecord s ≡ answered (ofTable t)) × RightHanded t (fresh t) (decided t) h
   right-decide room h e =
       let (t, et, handed) = and-then (tableRead s) _ h e in
       let read = is-table (readRecord s) t et in
       (t, read, right-handed t (fresh t) callBudget room h (fresh-table t) (decided-kept t (read-taken s all t read)) handed)
 
-  right-carry-on : (budget room : ℕ) (h : Handed) → carriedOn s budget room ≡ answered h
+  -- of a job that is carried on
+  carried-run : {A : Type 0} (takes : Job → Answered A) (j : Job) (budget : ℕ) (h : Handed A) → takenAfter budget takes j ≡ answered h
+      → NoneBroken (jobRules (run budget j) []) × (takenWith takes j (run budget j) ≡ answered h)
+  carried-run takes j budget h e =
+      let (next, en, handed) = and-then (carryOn j budget) _ h e in
+      let same = carried-on j next budget en in
+      (subst (λ (i : Job). NoneBroken (jobRules i [])) same (carried-kept j next budget en), ap (takenWith takes j) (sym same) ∙ handed)
+
+  right-carry-on : (budget room : ℕ) (h : Handed (List ℕ)) → carriedOn s budget room ≡ answered h
       → (j : Job) × (readRecord s ≡ answered (ofJob j)) × RightHanded (j .table) j (run budget j) h
   unfolding carriedOn
   right-carry-on budget room h e =
       let (j, ej, ec) = and-then (jobRead s) _ h e in
-      let (next, en, handed) = and-then (carryOn j budget) _ h ec in
-      let same = carried-on j next budget en in
-      let kept = subst (λ (i : Job). NoneBroken (jobRules i [])) same (carried-kept j next budget en) in
-      (j, is-job (readRecord s) j ej, right-handed (j .table) j budget room h refl kept (ap (handedBack room j) (sym same) ∙ handed))
+      let (kept, handed) = carried-run (outcomeWritten room) j budget h ec in
+      (j, is-job (readRecord s) j ej, right-handed (j .table) j budget room h refl kept handed)
+
+  right-find-gate : (budget room : ℕ) (h : Handed Gate) → findGate s budget room ≡ answered h
+      → (j : Job) × Begins s j × RightFound j (run budget j) Gate (RightGate (j .table)) h
+  right-find-gate budget room h e =
+      let (j, ej, after) = and-then (jobFor s) _ h e in
+      let (kept, handed) = carried-run (gateFound room) j budget h after in
+      (j, begins s (readRecord s) refl j ej, right-gate-found j budget kept room h handed)
+
+  right-find-witness : (budget room : ℕ) (h : Handed (List ℕ)) → findWitness s budget room ≡ answered h
+      → (j : Job) × Begins s j × RightFound j (run budget j) (List ℕ) (RightCounts (j .table)) h
+  right-find-witness budget room h e =
+      let (j, ej, after) = and-then (jobFor s) _ h e in
+      let (kept, handed) = carried-run (countsFound room) j budget h after in
+      (j, begins s (readRecord s) refl j ej, right-counts-found j budget kept room h handed)
 
   -- what is decided of any bytes is right
   pub decided-is-right : DecidedIsRight s
-  decided-is-right = record { line = right-line; lines = right-lines s; decides = right-decide; carries-on = right-carry-on }
+  decided-is-right = record {
+    line = right-line;
+    lines = right-lines s;
+    decides = right-decide;
+    carries-on = right-carry-on;
+    finds-gate = right-find-gate;
+    finds-witness = right-find-witness;
+  }

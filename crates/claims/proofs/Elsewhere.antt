@@ -1,52 +1,63 @@
 -- What is written of hex digits or words is the record of the table with their rows, and is read as that table. Assumes nothing.
-use mathlib.Core.Path.{_≡_, _∙_, ap}
-use mathlib.Core.Bool.{Bool}
+use mathlib.Core.Path.{_≡_, refl, _∙_}
+use mathlib.Core.Bool.{Bool, true}
 use mathlib.Core.List.{List, [], _∷_}
 use Prim.Native.Nat.{ℕ, _≤_}
 use borrow.Author.Tests.{ltb-false}
-use Rattle.table.specs.Table.{inputLimit}
+use Rattle.table.specs.Table.{inputLimit, rowBytes}
+use Rattle.table.proofs.RowLaws.{ByteArray, rows-long, row-byte-lt, row-is}
+use Rattle.codec.proofs.TableFieldLaws.{Held}
 use Rattle.cell.specs.Refusal.{answered, NoneBroken, also}
-use Rattle.cell.specs.Calls.{tooManyInputs, tableRules}
-use Rattle.cell.proofs.RefusalLaws.{answered-none-broken, none-broken-answered}
-use Rattle.records.specs.Record.{ofTable, recordBytes}
-use Rattle.writers.specs.Calls.{tooShort, fitted}
+use Rattle.cell.specs.Calls.{tooManyInputs}
+use Rattle.records.specs.Record.{ofTable}
+use Rattle.writers.specs.Calls.{writeRecord}
 use Rattle.writers.proofs.ReadBack.{read-back}
-use Rattle.imports.specs.Imports.{tableWith, tableRecord, digitRow, otherDigits, noDigit, fromHex, wordRow, fewWords, fromWords}
-use Rattle.imports.proofs.RowLaws.{many, long, made-kept, row-is}
+use Rattle.imports.specs.Imports.{tableRecord, digitRow, otherDigits, noDigit, fromHex, wordRow, fewWords, fromWords, tableWithCares, caresRecord, fromCares}
+use Rattle.imports.proofs.RowLaws.{made-written, cares-written}
 use Rattle.claims.specs.Elsewhere.{IsTable}
+use Rattle.claims.proofs.Rules.{rules-answered}
 
--- a table's record that was written is read as the table
-is-table : (n : ℕ) (f : ℕ → Bool) (room : ℕ) (bytes : List ℕ) → n ≤ 8 → tableRecord n f room ≡ answered bytes → IsTable n f bytes
-is-table n f room bytes few e =
-    let t = tableWith n f in
-    let wrote = none-broken-answered (tableRules t []) (fitted room (recordBytes (ofTable t))) (made-kept n f few) ∙ e in
-    record { table = t; read = read-back (ofTable t) (long n f few) room bytes wrote; inputs = many n f few; rows = row-is n f few }
+-- the arrays of a table by its rows are the code's
+module _ (n : ℕ) (f g : ℕ → Bool) (few : n ≤ 8) where
+  array : (c : ℕ → Bool) → ByteArray (rowBytes n c)
+  array c = record { size = rows-long n c few; fits = row-byte-lt n c few }
 
--- the bytes of a call that answers are the record's
-module _ (n : ℕ) (f : ℕ → Bool) (room : ℕ) (bytes : List ℕ) where
-  abbrev record-of : List ℕ
-  record-of = recordBytes (ofTable (tableWith n f))
+  -- a table's record that was written is read as the table
+  is-table : (room : ℕ) (bytes : List ℕ) → writeRecord (ofTable (tableWithCares n f g)) room ≡ answered bytes → IsTable n f g bytes
+  is-table room bytes wrote = record {
+    table = tableWithCares n f g;
+    read = read-back (ofTable (tableWithCares n f g)) (record { long = rows-long n f few; cares = array g }) room bytes wrote;
+    inputs = refl;
+    rows = row-is n f few;
+    cares = row-is n g few;
+  }
 
-  answers : n ≤ 8 → NoneBroken (tooShort room record-of ∷ []) → record-of ≡ bytes → IsTable n f bytes
-  answers few short same =
-      is-table n f room bytes few
-      (none-broken-answered (tooShort room record-of ∷ []) (answered record-of) short ∙ ap answered same)
-
-pub from-hex : (n : ℕ) (digits : List ℕ) (room : ℕ) (bytes : List ℕ) → fromHex n digits room ≡ answered bytes → IsTable n (digitRow digits) bytes
+pub from-hex : (n : ℕ) (digits : List ℕ) (room : ℕ) (bytes : List ℕ) → fromHex n digits room ≡ answered bytes → IsTable n (digitRow digits) (λ r. true) bytes
 from-hex n digits room bytes e =
-    let own = record-of n (digitRow digits) room bytes in
-    let rules = tooManyInputs n ∷ otherDigits n digits ∷ noDigit digits ∷ tooShort room own ∷ [] in
-    by (answered-none-broken rules own bytes e)
+    by (rules-answered (tooManyInputs n ∷ otherDigits n digits ∷ noDigit digits ∷ []) (tableRecord n (digitRow digits) room) bytes e)
   where
-    by : let own = record-of n (digitRow digits) room bytes in
-        NoneBroken (tooManyInputs n ∷ otherDigits n digits ∷ noDigit digits ∷ tooShort room own ∷ []) × (own ≡ bytes) → IsTable n (digitRow digits) bytes
-    by (also few (also count (also all short)), same) = answers n (digitRow digits) room bytes (ltb-false inputLimit n few) short same
+    by : NoneBroken (tooManyInputs n ∷ otherDigits n digits ∷ noDigit digits ∷ []) × (tableRecord n (digitRow digits) room ≡ answered bytes)
+        → IsTable n (digitRow digits) (λ r. true) bytes
+    by (also few rest, wrote) =
+        let most = ltb-false inputLimit n few in
+        is-table n (digitRow digits) (λ r. true) most room bytes (made-written n (digitRow digits) most room ∙ wrote)
 
-pub from-words : (n : ℕ) (words : List ℕ) (room : ℕ) (bytes : List ℕ) → fromWords n words room ≡ answered bytes → IsTable n (wordRow words) bytes
-from-words n words room bytes e =
-    let own = record-of n (wordRow words) room bytes in
-    by (answered-none-broken (tooManyInputs n ∷ fewWords n words ∷ tooShort room own ∷ []) own bytes e)
+pub from-words : (n : ℕ) (words : List ℕ) (room : ℕ) (bytes : List ℕ) → fromWords n words room ≡ answered bytes → IsTable n (wordRow words) (λ r. true) bytes
+from-words n words room bytes e = by (rules-answered (tooManyInputs n ∷ fewWords n words ∷ []) (tableRecord n (wordRow words) room) bytes e)
   where
-    by : let own = record-of n (wordRow words) room bytes in
-        NoneBroken (tooManyInputs n ∷ fewWords n words ∷ tooShort room own ∷ []) × (own ≡ bytes) → IsTable n (wordRow words) bytes
-    by (also few (also enough short), same) = answers n (wordRow words) room bytes (ltb-false inputLimit n few) short same
+    by : NoneBroken (tooManyInputs n ∷ fewWords n words ∷ []) × (tableRecord n (wordRow words) room ≡ answered bytes)
+        → IsTable n (wordRow words) (λ r. true) bytes
+    by (also few rest, wrote) =
+        let most = ltb-false inputLimit n few in
+        is-table n (wordRow words) (λ r. true) most room bytes (made-written n (wordRow words) most room ∙ wrote)
+
+pub from-cares : (n : ℕ) (words cares : List ℕ) (room : ℕ) (bytes : List ℕ) → fromCares n words cares room ≡ answered bytes
+    → IsTable n (wordRow words) (wordRow cares) bytes
+from-cares n words cares room bytes e =
+    by (rules-answered (tooManyInputs n ∷ fewWords n words ∷ fewWords n cares ∷ []) (caresRecord n (wordRow words) (wordRow cares) room) bytes e)
+  where
+    by : NoneBroken (tooManyInputs n ∷ fewWords n words ∷ fewWords n cares ∷ []) × (caresRecord n (wordRow words) (wordRow cares) room ≡ answered bytes)
+        → IsTable n (wordRow words) (wordRow cares) bytes
+    by (also few rest, wrote) =
+        let most = ltb-false inputLimit n few in
+        is-table n (wordRow words) (wordRow cares) most room bytes (cares-written n (wordRow words) most (wordRow cares) room ∙ wrote)

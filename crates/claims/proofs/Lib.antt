@@ -16,6 +16,8 @@ pub mod Lists
 pub mod Decided
 -- the distance of a row of a table, and the gate rule, by its true inputs
 pub mod TrueInputs
+-- the fresh job of a table, by its rows that are cared for
+pub mod FreshJobs
 -- the trace of a table's job, by its rows
 pub mod Traces
 -- the mean of a report: at most half a tenth off, and even on the half

@@ -23,10 +23,10 @@ lent-past out bytes = drop-append-seam bytes (drop (0 + length bytes) out) ∙ a
 
 -- where the rules of a record are kept, so are those that stand after them
 record-others-kept : (x : Record) {others : List Rule} → NoneBroken (recordRules x others) → NoneBroken others
-record-others-kept (ofTable t) (also few (also spare kept)) = kept
-record-others-kept (ofGate t g) (also same (also few (also spare (also range kept)))) = kept
-record-others-kept (ofWitness t w) (also few (also spare (also range kept))) = kept
-record-others-kept (ofJob j) (also few (also spare (also sound (also going kept)))) = kept
+record-others-kept (ofTable t) (also few (also spare (also stray kept))) = kept
+record-others-kept (ofGate t g) (also same (also few (also spare (also stray (also whole (also range kept)))))) = kept
+record-others-kept (ofWitness t w) (also few (also spare (also stray (also whole (also range kept))))) = kept
+record-others-kept (ofJob j) (also few (also spare (also stray (also sound (also going kept))))) = kept
 
 fits : (room : ℕ) (bytes : List ℕ) → NoneBroken (tooShort room bytes ∷ []) → length bytes ≤ room
 fits room bytes (also long kept) = ltb-false room (length bytes) long

@@ -1,4 +1,4 @@
--- Demand 2, of what a user meets: the report, and the records that decide and carry-on of the C interface hand back. Statements alone; each
+-- Demand 2, of what a user meets: the report, and what decide, carry-on and the two finds of the C interface hand back. Statements alone; each
 -- cites the definitions that the contracts cite. Assumes nothing.
 use mathlib.Core.Path.{_≡_}
 use mathlib.Core.Bool.{true}
@@ -25,14 +25,16 @@ use Rattle.notation.specs.GateText.{gateText}
 use Rattle.notation.specs.WitnessText.{witnessText}
 use Rattle.reporting.specs.Lines.{openText, recordLine, refusalLine, lastLine}
 use Rattle.reporting.specs.Report.{inputMost, noTally, counted, report}
+use Rattle.arrays.specs.Arrays.{countsOf}
 use Rattle.outcome.specs.Outcome.{Handed}
+use Rattle.findings.specs.Findings.{findGate, findWitness}
 use Rattle.threshold.specs.Interface.{decide, carriedOn}
 use Rattle.claims.specs.Jobs.{Taken}
 use Rattle.table.specs.Table.{functionOf}
 
 -- ---- a right outcome
 
--- a gate that has the table's value on every row, and that the checker accepts
+-- a gate that has the table's value on every row that is cared for, and that the checker accepts
 pub record RightGate (t : Table) (g : Gate) : Type 0 where
   pub realises : Realises (g .weights) (g .threshold) (functionOf t)
   pub accepted : checkGate t g ≡ answered true
@@ -81,17 +83,37 @@ pub data RightLines (s : List ℕ) : (at : ℕ) → Tally → List ℕ → Type 
 -- ---- in what the C interface hands back
 
 -- of a call that brought the table's machine from one job to the next: the bytes of a right record, and what K grew by
-pub record RightHanded (t : Table) (before next : Job) (h : Handed) : Type 0 where
-  pub bytes : Right t next recordBytes (h .bytes)
+pub record RightHanded (t : Table) (before next : Job) (h : Handed (List ℕ)) : Type 0 where
+  pub bytes : Right t next recordBytes (h .value)
   pub made : h .made + before .state .k ≡ next .state .k
+
+-- of a call that found a gate, or the counts of a witness, for the table of a job: they are right for it, and the corrections made are what K
+-- grew by
+pub record RightFound (j next : Job) (A : Type 0) (right : A → Type 0) (h : Handed A) : Type 0 where
+  pub found : right (h .value)
+  pub made : h .made + j .state .k ≡ next .state .k
+
+-- the counts of a right witness, of the rows of its table
+abbrev pub RightCounts : Table → List ℕ → Type 0
+RightCounts t counts = (w : Witness) × (counts ≡ countsOf t w) × RightWitness t w
+
+-- the job that a record's bytes begin with: the fresh job of a table, or a job that was saved
+pub data Begins (s : List ℕ) : Job → Type 0 where
+  of-table : (t : Table) → readRecord s ≡ answered (ofTable t) → Begins s (fresh t)
+  of-job : (j : Job) → readRecord s ≡ answered (ofJob j) → Begins s j
 
 -- ---- the claim
 
 -- Of any bytes: every table that no rule refuses gets a right line, and a report of the bytes is such lines. What decide hands back of them
--- is right for the table that they are, and what carry-on hands back is right for the table of the job that they are
+-- is right for the table that they are, and what carry-on hands back is right for the table of the job that they are. So are the gate and the
+-- counts that are found of either, whether every row is cared for or not
 pub record DecidedIsRight (s : List ℕ) : Type 0 where
   pub line : (t : Table) → Taken t → (position : ℕ) → RightLine position t (recordLine position (decided t))
   pub lines : length s ≤ inputMost → RightLines s 0 noTally (report s)
-  pub decides : (room : ℕ) (h : Handed) → decide s room ≡ answered h → (t : Table) × (readRecord s ≡ answered (ofTable t)) × RightHanded t (fresh t) (decided t) h
-  pub carries-on : (budget room : ℕ) (h : Handed) → carriedOn s budget room ≡ answered h
+  pub decides : (room : ℕ) (h : Handed (List ℕ)) → decide s room ≡ answered h → (t : Table) × (readRecord s ≡ answered (ofTable t)) × RightHanded t (fresh t) (decided t) h
+  pub carries-on : (budget room : ℕ) (h : Handed (List ℕ)) → carriedOn s budget room ≡ answered h
       → (j : Job) × (readRecord s ≡ answered (ofJob j)) × RightHanded (j .table) j (run budget j) h
+  pub finds-gate : (budget room : ℕ) (h : Handed Gate) → findGate s budget room ≡ answered h
+      → (j : Job) × Begins s j × RightFound j (run budget j) Gate (RightGate (j .table)) h
+  pub finds-witness : (budget room : ℕ) (h : Handed (List ℕ)) → findWitness s budget room ≡ answered h
+      → (j : Job) × Begins s j × RightFound j (run budget j) (List ℕ) (RightCounts (j .table)) h

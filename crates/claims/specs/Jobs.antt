@@ -43,7 +43,7 @@ pub record SoundnessIsKept : Type 0 where
   pub step : (j : Job) → Taken (j .table) → Sound j → j .state .stage ≡ Open → j .state .k < cap → Sound (step j)
   pub reached : (t : Table) → Taken t → (m : ℕ) → m ≤ cap → Sound (run m (fresh t))
 
--- Demand 2, of any job handed in: a gate that is shown has the table's value on every row, and the checker accepts it; "not a threshold
+-- Demand 2, of any job handed in: a gate that is shown has the table's value on every row that is cared for, and the checker accepts it; "not a threshold
 -- function" is said only with a witness that the checker accepts, and then no integer weights and threshold of any size realise the table
 pub record ShownIsRight : Type 0 where
   pub gate : (j : Job) (s : Shown) → showJob j ≡ answered s → s .verdict ≡ Verdict′.Gate → Realises (s .gate .weights) (s .gate .threshold) (functionOf (j .table))

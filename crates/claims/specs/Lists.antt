@@ -97,8 +97,8 @@ ofOpen Found rules = []
 ofOpen Looped rules = []
 ofOpen Binate rules = []
 
--- the order of a call, for its arguments and the machine's job: carry-on 2, 3, 9, 10, the ended answer, 11, which is asked of an open job alone;
--- save 2, 3, 9, 13, 12
+-- the order of a call, for its arguments and the machine's job: carry-on 2, 3, 16, 9, 10, the ended answer, 11, which is asked of an open job alone;
+-- save 2, 3, 16, 9, 13, 12
 abbrev pub callRules : Job → Call → List Rule
 callRules m (carryOnBy budget) = jobRules m (budgetRange budget ∷ ofOpen (m .state .stage) (pastCap m budget ∷ []))
 callRules m (saveAndRead buffer) = recordRules (ofJob m) (tooShort (length buffer) (recordBytes (ofJob m)) ∷ [])

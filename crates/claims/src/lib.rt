@@ -13,12 +13,20 @@ ghost use Rattle.claims.specs.Elsewhere.{TablesFromElsewhere};
 ghost use Rattle.claims.specs.Records.{ReadsBack, WritesBack, RecordsAreWritten};
 ghost use Rattle.claims.specs.Jobs.{JobNumbersOnTheirConditions, SoundnessIsKept, ShownIsRight, CarryOnIsTheMachine, CorrectionsAreBounded, WhatFitsIsFound};
 ghost use Rattle.types.specs.declared.table.Table.{Table};
-ghost use Rattle.claims.specs.Tables.{TablesAsWritten};
+ghost use Rattle.claims.specs.Tables.{TablesAsWritten, WholeTablesAsWritten};
+ghost use Rattle.table.specs.Table.{isWhole};
+ghost use mathlib.Core.Path.{_≡_};
+ghost use mathlib.Core.Bool.{true};
 ghost use Rattle.claims.specs.Claims.{NumbersOnTheirConditions, CheckerIsExact, WitnessExcludes, CheckedWitnessExcludes};
 
-// Document 01: what the definitions over any function say of a table.
+// Documents 01 and 02, §3: what the definitions over any function say of a table.
 pub fn tables_as_written()
     ensures { λ _. ⌜ ((t : Table) → TablesAsWritten t) ⌝ }
+{}
+
+// Document 01: what they say of a table with every row cared for.
+pub fn whole_tables_as_written()
+    ensures { λ _. ⌜ ((t : Table) → isWhole t ≡ true → WholeTablesAsWritten t) ⌝ }
 {}
 
 // Demand 1: a call gives a number exactly on its condition, and the earlier one in its order wins.
@@ -114,7 +122,8 @@ pub fn heights_by_the_page()
     ensures { λ _. ⌜ HeightsByThePage ⌝ }
 {}
 
-// Demand 2, of what a user meets: what a report says of the tables in any bytes, and what decide and carry-on of the C interface hand back.
+// Demand 2, of what a user meets: what a report says of the tables in any bytes, and what decide, carry-on and the two finds
+// of the C interface hand back.
 pub fn what_is_decided_is_right(bytes: &[u8])
     ensures { λ _. ⌜ DecidedIsRight (now (bytes .entry)) ⌝ }
 {
@@ -124,7 +133,7 @@ pub fn what_is_decided_is_right(bytes: &[u8])
 // Does nothing. A claim about a slice calls it: where a function calls another, its proof knows that the slice holds bytes.
 fn nothing() {}
 
-// Tables from hex digits and words have, row by row, the values that these stand for.
+// Tables from hex digits and words have, row by row, the values and the cares that these stand for.
 pub fn tables_from_elsewhere()
     ensures { λ _. ⌜ TablesFromElsewhere ⌝ }
 {}

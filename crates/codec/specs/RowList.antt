@@ -40,7 +40,7 @@ pub record RowList : Type 0 where
   pub counts : List ℕ
   pub kept : Bool
 
--- 8, where ranges are refused at once (kind 3); a kind 4 list goes on, and its job is not sound
+-- 8, where ranges are refused at once (kind 3); a list of kind 4 or 6 goes on, and its job is not sound
 abbrev pub outOfRange : Bool → Bool → Rule
 outOfRange strict fits = rule 8 (strict && not fits)
 

@@ -20,7 +20,7 @@ unfoldable pub vectorBytes : ℕ → Vector → List ℕ
 unfolding weightBytes
 vectorBytes n v = weightBytes (v .a) n 0 ++ numberBytes (signedCode (v .b))
 
--- a signed number. 7: beyond its range, where ranges are refused at once (kind 2, and not kind 4)
+-- a signed number. 7: beyond its range, where ranges are refused at once (kind 2, and not kinds 4 and 6)
 abbrev pub signedAt : Bool → List ℕ → ℕ → Reading ℤ
 signedAt strict s at =
     onward (numberAt s at) (λ x next. checked (rule 7 (strict && not (within weightLimit (signedOf x))) ∷ []) (answered (field (signedOf x) next)))

@@ -43,7 +43,7 @@ fn add_high(sums: &mut [i16], steps: &[i16], sign: i16)
 
 // Corrects the vector of the sums by the row of a code.
 pub fn correct(sums: &mut [i16; 40], steps: &[i16; 2048], code: usize)
-    requires { ⌜ (code < 512) × Holds stepAt 2048 (now steps) × Narrow 32000 (now sums) ⌝ }
+    requires { ⌜ (code < 512) × Holds stepAt 2048 (now steps) × Narrow 16000 (now sums) ⌝ }
     ensures { λ r. ⌜ ((v : Vector) (y : Bool) (row : ℕ) → length (v .a) ≡ 8 → row < 256 → code ≡ rowCode y row → now (sums .entry) ≡ vectorSums v → now (sums .exit) ≡ vectorSums (correctedBy y (level 2 row) v)) ⌝ }
 {
     let low = (code % 64) * 32;

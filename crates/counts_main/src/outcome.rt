@@ -42,8 +42,15 @@ pub fn run(table: Table) -> Outcome
     Outcome {
         stage: stage_number(stage),
         corrections: state.k as u64,
-        accepted: accepted as u64,
+        accepted: one_if(accepted),
     }
+}
+
+// Returns 1 where a test holds, else 0.
+pub fn one_if(test: bool) -> u64
+    ensures { λ r. ⌜ r ≤ 1 ⌝ }
+{
+    if test { 1 } else { 0 }
 }
 
 // Returns the number of a stage.

@@ -4,7 +4,7 @@ use mathlib.Core.Bool.{Bool}
 use Prim.Native.Nat.{ℕ, suc, _+_, _/_, _%_, _^_, _≤_}
 
 -- a function of `places` inputs with levels 0 to `top`, specified on the rows that are cared for (the field's term: an incompletely specified
--- function). A table is one with top level 1, every row of which is cared for
+-- function). A table is one with top level 1
 pub record Function : Type 0 where
   pub places : ℕ
   pub top : ℕ

@@ -1,29 +1,25 @@
--- Tables as they are written elsewhere, as hex digits and as words of 64 rows (docs/FORMAT.md, "Hex digits" and "Words"). No
--- document has these calls, and their own numbers start at 101. Definitions only. Assumes nothing.
+-- Tables as they are written elsewhere, as hex digits and as words of 64 rows, with words of care bits or without (docs/FORMAT.md, "Hex digits"
+-- and "Words"). No document has these calls, and their own numbers start at 101. Definitions only. Assumes nothing.
 use mathlib.Core.Bool.{Bool, not, cond, _&&_}
 use mathlib.Core.List.{List, [], _∷_}
-use Prim.Native.Nat.{ℕ, _+_, _-_, _*_, _/_, _%_}
+use Prim.Native.Nat.{ℕ, _+_, _-_, _/_, _%_}
 use lib.Dec.{eqb, leb, ltb}
 use lib.ListN.{length, getD}
-use Rattle.numbers.specs.Packed.{packed, bitIn}
-use Rattle.numbers.specs.Tabulate.{tabulate}
+use Rattle.numbers.specs.Packed.{bitIn}
 use Rattle.numbers.specs.Tests.{allBelow}
 use Rattle.types.specs.declared.table.Table.{Table}
-use Rattle.table.specs.Table.{rowsOf}
+use Rattle.table.specs.Table.{rowsOf, rowBytes, wholeTable}
 use Rattle.cell.specs.Refusal.{Rule, rule, Answered, checked}
-use Rattle.cell.specs.Calls.{tooManyInputs}
+use Rattle.cell.specs.Calls.{tooManyInputs, strayValues}
+use Rattle.codec.specs.TableField.{tableOf}
 use Rattle.records.specs.Record.{ofTable, recordBytes}
 use Rattle.writers.specs.Calls.{fitted}
 
 -- ---- a table by its rows
 
--- byte k of so many rows: row 8k + j is its bit j, and rows past them are false
-abbrev pub rowByte : ℕ → (ℕ → Bool) → ℕ → ℕ
-rowByte rows f k = packed 8 (λ j. ltb (8 * k + j) rows && f (8 * k + j))
-
--- the table of n inputs that is true on the rows of f
-unfoldable pub tableWith : ℕ → (ℕ → Bool) → Table
-tableWith n f = record { n = n; bytes = tabulate 32 (rowByte (rowsOf n) f) }
+-- the table of n inputs that is true on the rows of f, and has every row cared for
+abbrev pub tableWith : ℕ → (ℕ → Bool) → Table
+tableWith n f = wholeTable n (rowBytes n f)
 
 -- its record: 12
 abbrev pub tableRecord : ℕ → (ℕ → Bool) → ℕ → Answered (List ℕ)
@@ -83,3 +79,18 @@ fewWords n words = rule 103 (ltb (length words) (wordCount n))
 -- the record of the table that words stand for: 2, 103, 12
 abbrev pub fromWords : ℕ → List ℕ → ℕ → Answered (List ℕ)
 fromWords n words room = checked (tooManyInputs n ∷ fewWords n words ∷ []) (tableRecord n (wordRow words) room)
+
+-- ---- words with care words: row r is cared for where that bit of the care words is 1
+
+-- the table of n inputs that is true on the rows of f, and has those of g cared for
+abbrev pub tableWithCares : ℕ → (ℕ → Bool) → (ℕ → Bool) → Table
+tableWithCares n f g = tableOf n (rowBytes n f) (rowBytes n g)
+
+-- its record, kind 1 if every row is cared for, else kind 5. 16: a row that is not cared for has a value bit; then 12
+abbrev pub caresRecord : ℕ → (ℕ → Bool) → (ℕ → Bool) → ℕ → Answered (List ℕ)
+caresRecord n f g room = let t = tableWithCares n f g in checked (strayValues t ∷ []) (fitted room (recordBytes (ofTable t)))
+
+-- the record of the table that words and care words stand for: 2, 103 of either, 16, 12
+abbrev pub fromCares : ℕ → List ℕ → List ℕ → ℕ → Answered (List ℕ)
+fromCares n words cares room =
+    checked (tooManyInputs n ∷ fewWords n words ∷ fewWords n cares ∷ []) (caresRecord n (wordRow words) (wordRow cares) room)

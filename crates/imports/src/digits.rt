@@ -4,15 +4,15 @@ use crate::made::put_table_record;
 use results::result::refusal;
 use table::table::byte_count;
 use table::table::row_count;
-use types::table::Table;
+use table::table::whole_table;
 ghost use mathlib.Core.Path.{_≡_};
 ghost use mathlib.Core.Bool.{true};
 ghost use Prim.Native.Nat.{_*_, _≤_, _<_};
 ghost use lib.ListN.{length};
 ghost use Rattle.numbers.specs.Tests.{allBelow};
-ghost use Rattle.table.specs.Table.{rowsOf};
+ghost use Rattle.table.specs.Table.{rowsOf, rowByte, rowBytes};
 ghost use Rattle.results.specs.Result.{Returned};
-ghost use Rattle.imports.specs.Imports.{digitValue, isDigit, digitCount, digitRow, rowByte, tableWith, fromHex};
+ghost use Rattle.imports.specs.Imports.{digitValue, isDigit, digitCount, digitRow, fromHex};
 
 // Returns the value of a hex digit, or 16 for any other character.
 fn digit_value(character: u8) -> u8
@@ -67,10 +67,10 @@ fn digit_byte(digits: &[u8], n: u8, at: usize) -> u8
     kept_bits(16 * high + low, n)
 }
 
-// Returns the table of n inputs that digits stand for.
-fn digit_table(digits: &[u8], n: u8) -> Table
+// Returns the values of the table of n inputs that digits stand for.
+fn digit_bytes(digits: &[u8], n: u8) -> [u8; 32]
     requires { ⌜ (n ≤ 8) × (length (now digits) ≡ digitCount n) × (allBelow (length (now digits)) (isDigit (now digits)) ≡ true) ⌝ }
-    ensures { λ r. ⌜ r ≡ tableWith n (digitRow (now (digits .entry))) ⌝ }
+    ensures { λ r. ⌜ r ≡ rowBytes n (digitRow (now (digits .entry))) ⌝ }
 {
     let count = byte_count(n);
     let mut bytes = [0u8; 32];
@@ -79,7 +79,7 @@ fn digit_table(digits: &[u8], n: u8) -> Table
         bytes[at] = digit_byte(digits, n, at);
         at = at + 1;
     }
-    Table { n, bytes }
+    bytes
 }
 
 // Writes the record of the table that digits stand for. Returns the length. Refusals: 2, 101, 102, 12.
@@ -96,5 +96,5 @@ pub fn from_hex(inputs: u32, digits: &[u8], out: &mut [u8]) -> i64
     if !all_digits(digits) {
         return refusal(102);
     }
-    put_table_record(digit_table(digits, n), out)
+    put_table_record(whole_table(n, digit_bytes(digits, n)), out)
 }

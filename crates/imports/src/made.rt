@@ -5,16 +5,13 @@ use types::table::Table;
 use writers::write::write_table;
 ghost use mathlib.Core.Path.{_≡_};
 ghost use mathlib.Core.Bool.{_&&_};
-ghost use mathlib.Core.List.{[]};
 ghost use Prim.Native.Nat.{_≤_};
 ghost use lib.Dec.{ltb};
 ghost use lib.ListN.{length};
 ghost use Rattle.numbers.specs.Packed.{packed, bitIn};
 ghost use Rattle.table.specs.Table.{rowsOf};
-ghost use Rattle.cell.specs.Refusal.{NoneBroken};
-ghost use Rattle.cell.specs.Calls.{tableRules};
-ghost use Rattle.records.specs.Record.{ofTable, recordBytes};
-ghost use Rattle.writers.specs.Calls.{fitted};
+ghost use Rattle.records.specs.Record.{ofTable};
+ghost use Rattle.writers.specs.Calls.{writeRecord};
 ghost use Rattle.results.specs.Result.{Returned};
 
 // Returns the bits of a byte that are rows of a table of n inputs: all where there are eight rows or more.
@@ -28,10 +25,10 @@ pub fn kept_bits(byte: u8, n: u8) -> u8
     byte
 }
 
-// Writes the record of a table that keeps its format. Returns the length, or the refusal: 12.
+// Writes the record of a table. Returns the length. Refusals: those of the table, 12.
 pub fn put_table_record(table: Table, out: &mut [u8]) -> i64
-    requires { ⌜ NoneBroken (tableRules table []) ⌝ }
-    ensures { λ r. ⌜ Returned (fitted (length (now (out .entry))) (recordBytes (ofTable table))) (now (out .entry)) r (now (out .exit)) ⌝ }
+    requires { ⌜ table .n ≤ 8 ⌝ }
+    ensures { λ r. ⌜ Returned (writeRecord (ofTable table) (length (now (out .entry)))) (now (out .entry)) r (now (out .exit)) ⌝ }
 {
     let answer = write_table(table, out);
     written_length(answer)

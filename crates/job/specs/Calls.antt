@@ -23,7 +23,7 @@ use Rattle.function.specs.Witness.{zeros}
 pub use Rattle.state.specs.Machine.{callBudget, isEnded}
 use Rattle.job.specs.Sound.{cap, isSound}
 
--- ---- fresh: 2, 3
+-- ---- fresh: 2, 3, 16
 
 -- the fresh job of a table
 abbrev pub freshJob : Table → Answered Job
@@ -34,13 +34,13 @@ abbrev pub started : Table → Answered Job → Started
 started t (answered j) = record { status = Status′.Done; job = j }
 started t (refused n) = record { status = Status′.Refused n; job = startJob t zeros Open }
 
--- ---- decided: 2, 3
+-- ---- decided: 2, 3, 16
 
 -- the job of a table after one carry-on of the whole call budget
 abbrev pub decidedJob : Table → Answered Job
 decidedJob t = checked (tableRules t []) (answered (decided t))
 
--- ---- carry-on: 2, 3, 9, 10, the ended answer, 11
+-- ---- carry-on: 2, 3, 16, 9, 10, the ended answer, 11
 
 -- 9: job not sound
 abbrev pub unsound : Job → Rule
@@ -54,7 +54,7 @@ budgetRange b = rule 10 (eqb b 0 || ltb callBudget b)
 abbrev pub pastCap : Job → ℕ → Rule
 pastCap j b = rule 11 (ltb cap (j .state .k + b))
 
--- the rules of a job, before the other rules of every call that takes one: 2, 3, 9
+-- the rules of a job, before the other rules of every call that takes one: 2, 3, 16, 9
 abbrev pub jobRules : Job → List Rule → List Rule
 jobRules j others = tableRules (j .table) (unsound j ∷ others)
 

@@ -51,7 +51,7 @@ fn not_started(table: Table, number: u8) -> Started
     }
 }
 
-// Returns whether the job can be taken by a call, or its refusal: 2, 3, 9.
+// Returns whether the job can be taken by a call, or its refusal: 2, 3, 16, 9.
 pub fn job_status(job: Job) -> Status
     ensures { λ r. ⌜ r ≡ status (jobChecked job) ⌝ }
 {
@@ -74,7 +74,8 @@ impl Job {
     // The most corrections of one call.
     pub const CALL_BUDGET: u32 = CALL_BUDGET;
 
-    // Returns the fresh job of a table: open, or binate with the counts that show it. Refusals: 2, 3.
+    // Returns the fresh job of a table: open; found, where no row is cared for; or binate with the counts that
+    // show it. Refusals: 2, 3, 16.
     pub fn fresh(table: Table) -> Started
         ensures { λ r. ⌜ r ≡ started table (freshJob table) ⌝ }
     {
@@ -91,7 +92,7 @@ impl Job {
         }
     }
 
-    // Returns the job of a table after one carry-on of the whole call budget from its fresh job. Refusals: 2, 3.
+    // Returns the job of a table after one carry-on of the whole call budget from its fresh job. Refusals: 2, 3, 16.
     pub fn decided(table: Table) -> Started
         ensures { λ r. ⌜ r ≡ started table (decidedJob table) ⌝ }
     {
@@ -108,7 +109,7 @@ impl Job {
         }
     }
 
-    // Carries the job on by a budget of corrections, or to its end. Refusals: 2, 3, 9, 10, 11; the job is then as it came in. An
+    // Carries the job on by a budget of corrections, or to its end. Refusals: 2, 3, 16, 9, 10, 11; the job is then as it came in. An
     // ended job makes no correction.
     pub fn carry_on(self, budget: u32) -> Carried
         ensures { λ r. ⌜ r ≡ carried self (carryOn self budget) ⌝ }

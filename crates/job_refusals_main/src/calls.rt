@@ -3,6 +3,7 @@ use crate::print;
 use cell::refusal::Status;
 use job::job::Carried;
 use job::job::Job;
+use job::job::Started;
 use job::job::job_status;
 use papers::show;
 use table::witness::same_counts;
@@ -16,10 +17,20 @@ use view::shown::row_fails;
 
 // Prints the fresh job of a table.
 pub fn on_table(table: Table) {
-    let started = Job::fresh(table);
+    show::word(b": fresh");
+    started(table, Job::fresh(table));
+}
+
+// Prints the job of a table after one carry-on of the whole call budget.
+pub fn on_decided(table: Table) {
+    show::word(b": decided");
+    started(table, Job::decided(table));
+}
+
+// Prints what making a job of a table gave.
+fn started(table: Table, started: Started) {
     let status = started.status;
     let job = started.job;
-    show::word(b": fresh");
     print::status(status);
     print::job(job);
     print::kept(b" table", same_table(job.table, table));

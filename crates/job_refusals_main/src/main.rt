@@ -22,14 +22,17 @@ fn run(lines: &[u8]) {
     }
 }
 
-// Prints the line of a case, then the fresh job of its table or what the calls say of its job.
+// Prints the line of a case, then the fresh job of its table, its job after one call, or what the calls say of the line's job.
 fn run_line(line: &[u8]) {
     if first(line) == b'#' {
         return;
     }
     show::word(line);
-    if word(line, 3).len() == 0 {
+    let letter = word(line, 3);
+    if letter.len() == 0 {
         calls::on_table(table_of(line));
+    } else if letter[0] == b'D' {
+        calls::on_decided(table_of(line));
     } else {
         calls::on_job(make::job(line), make::row(line), make::budget(line));
     }

@@ -1,11 +1,13 @@
 // Carries the job of each function on by one call, shows what came of it, and does the same in many small calls. Prints a line for each
-// function, a second one where the job was still open, and last the numbers of verdicts and the sum of K over the gates.
+// function, a second one where the job was still open, and last the numbers of verdicts and the sum of K over the gates; then the same of
+// the partial tables.
 mod call;
 mod function;
 mod split;
 
 use function::Outcome;
 use papers::data::FUNCTIONS;
+use papers::data::PARTIAL;
 use papers::line::line_end;
 use papers::show;
 ghost use Prim.Native.Nat.{_^_, _≤_, _<_};
@@ -66,4 +68,6 @@ fn summary(gates: u64, witnesses: u64, given_up: u64, gates_k: u64) {
 fn main() {
     let lines = FUNCTIONS;
     run(&lines);
+    let partial = PARTIAL;
+    run(&partial);
 }

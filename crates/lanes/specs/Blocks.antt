@@ -3,7 +3,7 @@
 use mathlib.Core.Bool.{Bool}
 use Prim.Native.Nat.{ℕ, _*_, _-_, _%_, _^_}
 use Rattle.types.specs.declared.table.Table.{Table}
-use Rattle.table.specs.Table.{rows, value}
+use Rattle.table.specs.Table.{rows, value, cared}
 
 -- the blocks of n inputs
 abbrev pub blocksOf : ℕ → ℕ
@@ -16,3 +16,7 @@ laneRows n = 32 * blocksOf n
 -- the value of a row of the blocks: a row past the table has that of the row that it repeats
 unfoldable pub laneValue : Table → ℕ → Bool
 laneValue t r = value t (r % rows t)
+
+-- whether such a row is cared for
+unfoldable pub laneCared : Table → ℕ → Bool
+laneCared t r = cared t (r % rows t)

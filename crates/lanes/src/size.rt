@@ -16,10 +16,11 @@ fn absolute(x: i32) -> u32
     if x < 0 { (0 - x) as u32 } else { x as u32 }
 }
 
-// Whether the sizes of b and of the weights add up to at most 14,000: 2,000 corrections then keep every distance within 32,000.
+// Whether the sizes of b and of the weights add up to at most 9,000, as they do in every job from a fresh one: 750 corrections then keep every
+// distance within 16,000.
 pub fn is_small(v: Vector) -> bool
     requires { ⌜ inRange weightLimit 8 (v .a) (v .b) ≡ true ⌝ }
-    ensures { λ r. ⌜ r ≡ leb (magnitude v) 14000 ⌝ }
+    ensures { λ r. ⌜ r ≡ leb (magnitude v) 9000 ⌝ }
 {
     let a = v.a;
     let mut sum = absolute(v.b);
@@ -28,5 +29,5 @@ pub fn is_small(v: Vector) -> bool
         sum = sum + absolute(a[place]);
         place = place + 1;
     }
-    sum <= 14000
+    sum <= 9000
 }

@@ -26,7 +26,7 @@ fn double(sums: &mut [i16; 40], from: usize, half: usize, weight: i16)
 
 // Returns the sums of a vector.
 pub fn sums_of(v: Vector) -> [i16; 40]
-    requires { ⌜ (length (v .a) ≡ 8) × (magnitude v ≤ 32000) ⌝ }
+    requires { ⌜ (length (v .a) ≡ 8) × (magnitude v ≤ 16000) ⌝ }
     ensures { λ r. ⌜ r ≡ vectorSums v ⌝ }
 {
     let a = v.a;

@@ -2,7 +2,7 @@
 pub mod RangeLaws
 -- the distance of a partner and of row 0, and the size of a distance
 pub mod DistanceLaws
--- the rows' values, and the list of them
+-- the list of the rows' bits
 pub mod ValueLaws
 -- the search for the lowest failing row by blocks
 pub mod ScanLaws

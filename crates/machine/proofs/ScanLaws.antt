@@ -1,8 +1,8 @@
 -- The search for the lowest failing row by blocks. An input doubles the rows: each row without it has a partner with it, whose distance is
 -- the row's and the input's weight. So a list that holds the distances of the first rows is made to hold those of twice as many, and what
 -- a search of the partners finds goes on from the search of the rows before them. Assumes nothing.
-use mathlib.Core.Path.{_≡_, sym, _∙_, ap}
-use mathlib.Core.Bool.{Bool, false}
+use mathlib.Core.Path.{_≡_, sym, _∙_, ap, ap₂}
+use mathlib.Core.Bool.{Bool, false, _&&_}
 use mathlib.Core.List.{List}
 use mathlib.Core.Option.{Option}
 use Prim.Native.Nat.{ℕ, suc, _+_, _-_, _^_, _≤_, _<_}
@@ -20,7 +20,7 @@ use Rattle.numbers.proofs.FirstLaws.{IsFirst, first-some, first-none}
 use Rattle.numbers.proofs.TabulateLaws.{getD-tabulate}
 use Rattle.types.specs.declared.table.Table.{Table}
 use Rattle.table.specs.declared.inputs.Lowest.the-variants.{At, Nowhere}
-use Rattle.table.specs.Table.{rows, value, functionOf}
+use Rattle.table.specs.Table.{rows, value, cared, functionOf}
 use Rattle.function.specs.Gate.{distance}
 use Rattle.table.specs.Inputs.{lowestOf}
 use Rattle.table.proofs.TableLaws.{rows-le, level-past}
@@ -57,30 +57,31 @@ module _ (half : ℕ) (weight : ℤ) (distances : List ℤ) where
 -- ---- the rows passed
 
 -- a list holds the distances of the rows below m, and none of those from `low` on fails
-pub record Passed (values : List Bool) (d : ℕ → ℤ) (low m : ℕ) (distances : List ℤ) : Type 0 where
+pub record Passed (cares values : List Bool) (d : ℕ → ℤ) (low m : ℕ) (distances : List ℤ) : Type 0 where
   pub holds : Holds d m distances
-  pub none-fails : (r : ℕ) → low ≤ r → r < m → failsAt values d r ≡ false
+  pub none-fails : (r : ℕ) → low ≤ r → r < m → failsAt cares values d r ≡ false
 
 -- a row more, with its distance stored, is passed where it does not fail
-pub passed-more : (values : List Bool) (d : ℕ → ℤ) (low m : ℕ) (distances : List ℤ) (x : ℤ) → m < length distances → x ≡ d m → failsAt values d m ≡ false
-    → Passed values d low m distances
-    → Passed values d low (m + 1) (set distances m x)
-passed-more values d low m distances x k e f p = record { holds = holds-more d m distances k e (p .holds); none-fails = λ r g l. fail r g l (decLe m r) }
+pub passed-more : (cares values : List Bool) (d : ℕ → ℤ) (low m : ℕ) (distances : List ℤ) (x : ℤ) → m < length distances → x ≡ d m → failsAt cares values d m ≡ false
+    → Passed cares values d low m distances
+    → Passed cares values d low (m + 1) (set distances m x)
+passed-more cares values d low m distances x k e f p = record { holds = holds-more d m distances k e (p .holds); none-fails = λ r g l. fail r g l (decLe m r) }
   where
-    fail : (r : ℕ) → low ≤ r → r < m + 1 → Dec (m ≤ r) → failsAt values d r ≡ false
+    fail : (r : ℕ) → low ≤ r → r < m + 1 → Dec (m ≤ r) → failsAt cares values d r ≡ false
     fail r g l (yes high) = let same : m ≡ r = omega arith in rw (← same) f
     fail r g l (no below) = p .none-fails r g (omega (arith, below))
 
 -- a row fails or not by its own distance
-fails-at-ext : (values : List Bool) (d e : ℕ → ℤ) (r : ℕ) → d r ≡ e r → failsAt values d r ≡ failsAt values e r
+fails-at-ext : (cares values : List Bool) (d e : ℕ → ℤ) (r : ℕ) → d r ≡ e r → failsAt cares values d r ≡ failsAt cares values e r
 unfolding failsAt
-fails-at-ext values d e r same = rw same
+fails-at-ext cares values d e r same = rw same
 
--- what code tests, by the row's value and its distance x, is whether the row fails
-pub fails-at-test : {test : Bool} {x : ℤ} (values : List Bool) (d : ℕ → ℤ) (r : ℕ) → test ≡ ltZ (margin (getD values r false) x) (pos 1) → x ≡ d r
-    → test ≡ failsAt values d r
+-- what code tests, by the row's care and value and its distance x, is whether the row fails
+pub fails-at-test : {test : Bool} {x : ℤ} (cares values : List Bool) (d : ℕ → ℤ) (r : ℕ)
+    → test ≡ (getD cares r false && ltZ (margin (getD values r false) x) (pos 1)) → x ≡ d r
+    → test ≡ failsAt cares values d r
 unfolding failsAt
-fails-at-test values d r e same = e ∙ ap (λ (z : ℤ). ltZ (margin (getD values r false) z) (pos 1)) same
+fails-at-test cares values d r e same = e ∙ ap (λ (z : ℤ). getD cares r false && ltZ (margin (getD values r false) z) (pos 1)) same
 
 -- ---- the block of an input: the partners of the rows below 2 ^ place
 
@@ -89,11 +90,11 @@ abbrev pub blockDistance : List ℤ → ℕ → List ℤ → ℕ → ℤ
 blockDistance ws place distances = doubled (2 ^ place) (getD ws place (pos 0)) distances
 
 -- the search through the block
-abbrev pub blockSearch : List Bool → List ℤ → ℕ → List ℤ → Option ℕ
-blockSearch values ws place distances = firstFrom (failsAt values (blockDistance ws place distances)) (2 ^ place) (2 ^ place)
+abbrev pub blockSearch : (cares values : List Bool) → List ℤ → ℕ → List ℤ → Option ℕ
+blockSearch cares values ws place distances = firstFrom (failsAt cares values (blockDistance ws place distances)) (2 ^ place) (2 ^ place)
 
-module _ (ws : List ℤ) (th : ℤ) (values : List Bool) (place : ℕ) (distances : List ℤ)
-    (passed : Passed values (rowDistance ws th) 0 (2 ^ place) distances)
+module _ (ws : List ℤ) (th : ℤ) (cares values : List Bool) (place : ℕ) (distances : List ℤ)
+    (passed : Passed cares values (rowDistance ws th) 0 (2 ^ place) distances)
   where
     -- the rows before the block and in it have their distances
     block-distance : (r : ℕ) → r < 2 ^ suc place → blockDistance ws place distances r ≡ distance ws th (level 2 r)
@@ -115,24 +116,24 @@ module _ (ws : List ℤ) (th : ℤ) (values : List Bool) (place : ℕ) (distance
             doubled-low (2 ^ place) (getD ws place (pos 0)) distances r below ∙ passed .holds r below
 
     -- so they fail in the block as they do by their distances
-    block-fails : (r : ℕ) → r < 2 ^ suc place → failsAt values (blockDistance ws place distances) r ≡ failsAt values (rowDistance ws th) r
-    block-fails r h = fails-at-ext values (blockDistance ws place distances) (rowDistance ws th) r (block-distance r h)
+    block-fails : (r : ℕ) → r < 2 ^ suc place → failsAt cares values (blockDistance ws place distances) r ≡ failsAt cares values (rowDistance ws th) r
+    block-fails r h = fails-at-ext cares values (blockDistance ws place distances) (rowDistance ws th) r (block-distance r h)
 
     -- where no row of the block before m fails, no row before m does
-    none-before : (m : ℕ) → m ≤ 2 ^ suc place → ((r : ℕ) → 2 ^ place ≤ r → r < m → failsAt values (blockDistance ws place distances) r ≡ false)
+    none-before : (m : ℕ) → m ≤ 2 ^ suc place → ((r : ℕ) → 2 ^ place ≤ r → r < m → failsAt cares values (blockDistance ws place distances) r ≡ false)
         → (r : ℕ)
         → r < m
-        → failsAt values (rowDistance ws th) r ≡ false
+        → failsAt cares values (rowDistance ws th) r ≡ false
     none-before m h f r l = by (decLe (2 ^ place) r)
       where
-        by : Dec (2 ^ place ≤ r) → failsAt values (rowDistance ws th) r ≡ false
+        by : Dec (2 ^ place ≤ r) → failsAt cares values (rowDistance ws th) r ≡ false
         by (yes high) = sym (block-fails r (omega arith)) ∙ f r high l
         by (no low) = passed .none-fails r (omega arith) (omega (arith, low))
 
     -- a row that is found in the block is the lowest that fails
-    pub block-row : (q : ℕ) → lowestOf (blockSearch values ws place distances) ≡ At q → IsFirst (failsAt values (rowDistance ws th)) (2 ^ suc place) 0 q
+    pub block-row : (q : ℕ) → lowestOf (blockSearch cares values ws place distances) ≡ At q → IsFirst (failsAt cares values (rowDistance ws th)) (2 ^ suc place) 0 q
     block-row q e =
-        let f = first-some (failsAt values (blockDistance ws place distances)) (2 ^ place) (2 ^ place) q (lowest-some _ q e) in
+        let f = first-some (failsAt cares values (blockDistance ws place distances)) (2 ^ place) (2 ^ place) q (lowest-some _ q e) in
         record {
           start = omega arith;
           inside = omega arith;
@@ -141,10 +142,10 @@ module _ (ws : List ℤ) (th : ℤ) (values : List Bool) (place : ℕ) (distance
         }
 
     -- where none is found, the block is passed
-    pub block-passed : (new : List ℤ) → lowestOf (blockSearch values ws place distances) ≡ Nowhere → Holds (blockDistance ws place distances) (2 ^ suc place) new
-        → Passed values (rowDistance ws th) 0 (2 ^ suc place) new
+    pub block-passed : (new : List ℤ) → lowestOf (blockSearch cares values ws place distances) ≡ Nowhere → Holds (blockDistance ws place distances) (2 ^ suc place) new
+        → Passed cares values (rowDistance ws th) 0 (2 ^ suc place) new
     block-passed new e h =
-        let f = first-none (failsAt values (blockDistance ws place distances)) (2 ^ place) (2 ^ place) (lowest-none _ e) in
+        let f = first-none (failsAt cares values (blockDistance ws place distances)) (2 ^ place) (2 ^ place) (lowest-none _ e) in
         record {
           holds = λ r l. h r l ∙ block-distance r l;
           none-fails = λ r g l. none-before (2 ^ suc place) (omega arith) (λ p high k. f p high (omega arith)) r l;
@@ -152,27 +153,31 @@ module _ (ws : List ℤ) (th : ℤ) (values : List Bool) (place : ℕ) (distance
 
 -- ---- the search of a table
 
-module _ (t : Table) (v : Vector) (values : List Bool) (small : t .n ≤ 8) (read : values ≡ tabulate 256 (value t)) where
-  -- a row of the table fails by the values that were read from it
-  fails-read : (r : ℕ) → r < rows t → failsAt values (rowDistance (v .a) (v .b)) r ≡ fails (functionOf t) v r
-  unfolding failsAt fails
-  fails-read r h =
-      let is : getD values r false ≡ value t r = rw read (getD-tabulate (value t) 256 r false (omega (arith, rows-le small))) in
-      ap (λ (y : Bool). ltZ (margin y (distance (v .a) (v .b) (level 2 r))) (pos 1)) is
+module _ (t : Table) (v : Vector) (cares values : List Bool) (small : t .n ≤ 8)
+    (read : (cares ≡ tabulate 256 (cared t)) × (values ≡ tabulate 256 (value t)))
+  where
+    -- a row of the table fails by the cares and values that were read from it
+    fails-read : (r : ℕ) → r < rows t → failsAt cares values (rowDistance (v .a) (v .b)) r ≡ fails (functionOf t) v r
+    unfolding failsAt fails
+    fails-read r h =
+        let inside : r < 256 = omega (arith, rows-le small) in
+        let care : getD cares r false ≡ cared t r = rw (read .0) (getD-tabulate (cared t) 256 r false inside) in
+        let is : getD values r false ≡ value t r = rw (read .1) (getD-tabulate (value t) 256 r false inside) in
+        ap₂ (λ (c y : Bool). c && ltZ (margin y (distance (v .a) (v .b) (level 2 r))) (pos 1)) care is
 
-  -- the lowest of the rows below m that fails is what is found
-  pub scan-row : (m q : ℕ) → m ≤ rows t → IsFirst (failsAt values (rowDistance (v .a) (v .b))) m 0 q → At q ≡ lowestOf (failing (functionOf t) v)
-  scan-row m q h f =
-      sym
-      (ap lowestOf
-      (failing-at (functionOf t) v q
-      record {
-        start = omega arith;
-        inside = omega arith;
-        passes = sym (fails-read q (omega arith)) ∙ f .passes;
-        before = λ r l k. sym (fails-read r (omega arith)) ∙ f .before r l k;
-      }))
+    -- the lowest of the rows below m that fails is what is found
+    pub scan-row : (m q : ℕ) → m ≤ rows t → IsFirst (failsAt cares values (rowDistance (v .a) (v .b))) m 0 q → At q ≡ lowestOf (failing (functionOf t) v)
+    scan-row m q h f =
+        sym
+        (ap lowestOf
+        (failing-at (functionOf t) v q
+        record {
+          start = omega arith;
+          inside = omega arith;
+          passes = sym (fails-read q (omega arith)) ∙ f .passes;
+          before = λ r l k. sym (fails-read r (omega arith)) ∙ f .before r l k;
+        }))
 
-  -- where no row fails, nothing is
-  pub scan-nowhere : ((r : ℕ) → r < rows t → failsAt values (rowDistance (v .a) (v .b)) r ≡ false) → Nowhere ≡ lowestOf (failing (functionOf t) v)
-  scan-nowhere p = sym (ap lowestOf (none-failing (functionOf t) v (λ r h. sym (fails-read r h) ∙ p r h)))
+    -- where no row fails, nothing is
+    pub scan-nowhere : ((r : ℕ) → r < rows t → failsAt cares values (rowDistance (v .a) (v .b)) r ≡ false) → Nowhere ≡ lowestOf (failing (functionOf t) v)
+    scan-nowhere p = sym (ap lowestOf (none-failing (functionOf t) v (λ r h. sym (fails-read r h) ∙ p r h)))

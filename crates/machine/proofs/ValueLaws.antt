@@ -1,13 +1,11 @@
--- Laws of the rows' values: a row is a bit of a byte; and of their list, filled from the front, the rows below m have theirs, and the others
--- are false. Assumes nothing.
+-- Laws of the list of the rows' bits, filled from the front: the rows below m have theirs, and the others are false. Assumes nothing.
 use mathlib.Core.Path.{_≡_, refl, sym, _∙_}
 use mathlib.Core.Bool.{false}
 use mathlib.Core.List.{List}
-use Prim.Native.Nat.{ℕ, _+_, _*_, _/_, _%_, _^_, _≤_, _<_}
+use Prim.Native.Nat.{ℕ, _+_, _*_, _/_, _%_, _≤_, _<_}
 use native.Mathlib.Nat.{div-eq-of-lt}
 use native.Mathlib.Decide.{decLe}
 use native.Mathlib.Omega.{arith}
-use lib.Dec.{eqb}
 use lib.ListN.{length, getD, set, replicate, length-set}
 use lib.Pow.{pow-pos}
 use lib.Seq.{getD-set-same, getD-set-other}
@@ -16,13 +14,6 @@ use Rattle.numbers.specs.Tabulate.{tabulate}
 use Rattle.numbers.proofs.TabulateLaws.{length-tabulate, getD-tabulate, tabulate-getD, tabulate-ext}
 use Rattle.table.specs.Table.{bitAt}
 use Rattle.machine.specs.Scan.{inTable, valuesBelow}
-
--- bit j of byte i is row 8i + j
-pub byte-bit : (bytes : List ℕ) (i j : ℕ) → j < 8 → eqb (getD bytes i 0 / 2 ^ j % 2) 1 ≡ bitAt bytes (8 * i + j)
-unfolding bitAt
-byte-bit bytes i j h =
-    let at : (8 * i + j) / 8 ≡ i = omega arith in
-    let rest : (8 * i + j) % 8 ≡ j = omega arith in rw (at, rest)
 
 module _ (bytes : List ℕ) where
   -- a row below m has its value

@@ -1,5 +1,5 @@
--- The lists in which the search for the lowest failing row works: the values of the rows, and the distances of the rows so far, of which an
--- input makes twice as many. For the inside of the machine alone. Definitions only. Assumes nothing.
+-- The lists in which the search for the lowest failing row works: the cares and the values of the rows, and the distances of the rows so far,
+-- of which an input makes twice as many. For the inside of the machine alone. Definitions only. Assumes nothing.
 use mathlib.Core.Bool.{Bool, false, cond, _&&_}
 use mathlib.Core.List.{List}
 use Prim.Native.Nat.{ℕ, _-_}
@@ -13,11 +13,11 @@ use Rattle.function.specs.Function.{level}
 use Rattle.function.specs.Gate.{distance}
 use Rattle.function.specs.Failing.{margin}
 
--- row r's value, and false past the rows of the table
+-- row r's bit, and false past the rows of the table
 abbrev pub inTable : (rows : ℕ) → List ℕ → ℕ → Bool
 inTable rows bytes r = ltb r rows && bitAt bytes r
 
--- the values of the rows below m; the others are false
+-- the bits of the rows below m; the others are false
 abbrev pub valuesBelow : ℕ → List ℕ → List Bool
 valuesBelow m bytes = tabulate 256 (inTable m bytes)
 
@@ -25,9 +25,9 @@ valuesBelow m bytes = tabulate 256 (inTable m bytes)
 abbrev pub rowDistance : List ℤ → ℤ → ℕ → ℤ
 rowDistance ws th r = distance ws th (level 2 r)
 
--- row r fails, by the value that a list has for it and by its distance
-unfoldable pub failsAt : List Bool → (ℕ → ℤ) → ℕ → Bool
-failsAt values distance r = ltZ (margin (getD values r false) (distance r)) (pos 1)
+-- row r fails, by the care and the value that lists have for it and by its distance
+unfoldable pub failsAt : (cares values : List Bool) → (ℕ → ℤ) → ℕ → Bool
+failsAt cares values distance r = getD cares r false && ltZ (margin (getD values r false) (distance r)) (pos 1)
 
 -- the distances of twice `half` rows: below `half` those that a list holds, and from there on that of the row `half` below and the weight
 unfoldable pub doubled : (half : ℕ) → ℤ → List ℤ → ℕ → ℤ

@@ -4,21 +4,21 @@ use table::inputs::Lowest;
 use types::table::Table;
 use types::vector::Vector;
 ghost use mathlib.Core.Path.{_≡_};
-ghost use mathlib.Core.Bool.{true};
+ghost use mathlib.Core.Bool.{true, _&&_};
 ghost use Prim.Native.Nat.{ℕ, _+_, _*_, _^_, _≤_, _<_};
 ghost use lib.ListN.{length, getD};
 ghost use lib.IntN.{pos, natAbs};
 ghost use lib.Signed.{ltZ};
 ghost use Rattle.numbers.specs.Tests.{firstFrom};
 ghost use Rattle.numbers.specs.Tabulate.{tabulate, Holds};
-ghost use Rattle.table.specs.Table.{value, functionOf};
+ghost use Rattle.table.specs.Table.{value, cared, functionOf};
 ghost use Rattle.table.specs.Gate.{weightLimit, inRange};
 ghost use Rattle.table.specs.Inputs.{lowestOf};
 ghost use Rattle.function.specs.Failing.{margin, failing};
 ghost use Rattle.machine.specs.Scan.{failsAt, doubled, valuesBelow};
 ghost use Rattle.function.specs.Gate.{distance};
 
-// Stores the values of the eight rows of a byte, where those of the rows before it stand. A byte 0 has nothing to store.
+// Stores the bits of the eight rows of a byte, where those of the rows before it stand. A byte 0 has nothing to store.
 fn store_byte(values: &mut [bool; 256], bytes: &[u8; 32], at: usize)
     requires { ⌜ (at < 32) × (now values ≡ valuesBelow (8 * at) (now bytes)) ⌝ }
     ensures { λ _. ⌜ now (values .exit) ≡ valuesBelow (8 * (at + 1)) (now (bytes .entry)) ⌝ }
@@ -34,7 +34,7 @@ fn store_byte(values: &mut [bool; 256], bytes: &[u8; 32], at: usize)
     }
 }
 
-// Returns the values of the rows of the first `count` bytes. The other rows are false.
+// Returns the bits of the rows of the first `count` bytes. The other rows are false.
 pub fn byte_values(bytes: &[u8; 32], count: usize) -> [bool; 256]
     requires { ⌜ count ≤ 32 ⌝ }
     ensures { λ r. ⌜ r ≡ valuesBelow (8 * count) (now (bytes .entry)) ⌝ }
@@ -56,18 +56,35 @@ pub fn row_values(table: Table) -> [bool; 256]
     byte_values(&bytes, 32)
 }
 
-// Whether a row of this value and distance fails: its margin is below 1.
-pub fn fails_by(value: bool, distance: i64) -> bool
-    ensures { λ r. ⌜ r ≡ ltZ (margin value distance) (pos 1) ⌝ }
+// Returns whether each row is cared for.
+pub fn row_cares(table: Table) -> [bool; 256]
+    ensures { λ r. ⌜ r ≡ tabulate 256 (cared table) ⌝ }
 {
+    let cares = table.cares;
+    byte_values(&cares, 32)
+}
+
+// Whether a row of this care, value and distance fails: it is cared for, and its margin is below 1.
+pub fn fails_by(cared: bool, value: bool, distance: i64) -> bool
+    ensures { λ r. ⌜ r ≡ (cared && ltZ (margin value distance) (pos 1)) ⌝ }
+{
+    if !cared {
+        return false;
+    }
     if value { distance < 1 } else { -1 < distance }
 }
 
 // Searches the rows from `half` to twice `half`: each has the distance of the row `half` below it and one more weight.
-fn search_block(distances: &mut [i32], values: &[bool; 256], half: usize, weight: i32) -> Lowest
+fn search_block(
+    distances: &mut [i32],
+    cares: &[bool; 256],
+    values: &[bool; 256],
+    half: usize,
+    weight: i32,
+) -> Lowest
     requires { ⌜ (half ≤ 128) × (half + half ≤ length (now distances)) ⌝ }
     requires { ⌜ ((r : ℕ) → r < half → natAbs (getD (now distances) r (pos 0)) + natAbs weight < 2 ^ 31) ⌝ }
-    ensures { λ r. ⌜ r ≡ lowestOf (firstFrom (failsAt (now (values .entry)) (doubled half weight (now (distances .entry)))) half half) ⌝ }
+    ensures { λ r. ⌜ r ≡ lowestOf (firstFrom (failsAt (now (cares .entry)) (now (values .entry)) (doubled half weight (now (distances .entry)))) half half) ⌝ }
     ensures { λ r. ⌜ (r ≡ Lowest.Nowhere → Holds (doubled half weight (now (distances .entry))) (half + half) (now (distances .exit))) ⌝ }
 {
     let mut at: usize = 0;
@@ -75,7 +92,7 @@ fn search_block(distances: &mut [i32], values: &[bool; 256], half: usize, weight
         let row = half + at;
         let distance = distances[at] + weight;
         distances[row] = distance;
-        if fails_by(values[row], distance as i64) {
+        if fails_by(cares[row], values[row], distance as i64) {
             return Lowest::At(row);
         }
         at = at + 1;
@@ -86,22 +103,24 @@ fn search_block(distances: &mut [i32], values: &[bool; 256], half: usize, weight
 // Returns the lowest failing row. What `distances` held does not matter: it is room to work in.
 pub fn first_failing(
     distances: &mut [i32; 256],
+    cares: &[bool; 256],
     values: &[bool; 256],
     table: Table,
     v: Vector,
 ) -> Lowest
-    requires { ⌜ (table .n ≤ 8) × (inRange weightLimit 8 (v .a) (v .b) ≡ true) × (now values ≡ tabulate 256 (value table)) ⌝ }
+    requires { ⌜ (table .n ≤ 8) × (inRange weightLimit 8 (v .a) (v .b) ≡ true) ⌝ }
+    requires { ⌜ (now cares ≡ tabulate 256 (cared table)) × (now values ≡ tabulate 256 (value table)) ⌝ }
     ensures { λ r. ⌜ r ≡ lowestOf (failing (functionOf table) v) ⌝ }
 {
     let first = 0 - v.b;
-    if fails_by(values[0], first as i64) {
+    if fails_by(cares[0], values[0], first as i64) {
         return Lowest::At(0);
     }
     distances[0] = first;
     let n = table.n as usize;
     let mut place: usize = 0;
     while place < n {
-        let block = search_block(distances, values, 1usize << place, v.a[place]);
+        let block = search_block(distances, cares, values, 1usize << place, v.a[place]);
         if let Lowest::At(row) = block {
             return Lowest::At(row);
         }

@@ -3,7 +3,7 @@
 use mathlib.Core.Path.{_≡_, refl, sym, _∙_, ap, ap₂}
 use mathlib.Core.Bool.{Bool, true, false, cond}
 use mathlib.Core.Logic.{⊎-elim}
-use mathlib.Core.Option.{some, none}
+use mathlib.Core.Option.{Option, some, none}
 use Prim.Native.Nat.{ℕ, zero, suc, _+_, _-_, _<_, _≤_}
 use native.Mathlib.Nat.{eq-or-lt-of-le, add-zero, zero-add, add-suc, suc-add}
 use native.Mathlib.Omega.{arith}
@@ -96,3 +96,10 @@ module _ (test : ℕ → Bool) where
   pub first-none : (m r : ℕ) → firstFrom test m r ≡ none → (q : ℕ) → r ≤ q → q < r + m → test q ≡ false
   first-none zero r e q l k = absurd (omega arith)
   first-none (suc m) r e q l k = none-by m r (first-none m (suc r)) (test r) refl e q l k
+
+-- tests that agree find the same
+pub first-cong : (f g : ℕ → Bool) (m r : ℕ) → ((q : ℕ) → f q ≡ g q) → firstFrom f m r ≡ firstFrom g m r
+unfolding firstFrom
+first-cong f g zero r h = refl
+first-cong f g (suc m) r h =
+    ap₂ (λ (b : Bool) (later : Option ℕ). cond b (some r) later) (h r) (first-cong f g m (suc r) h)

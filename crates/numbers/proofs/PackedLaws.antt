@@ -9,7 +9,7 @@ use lib.Bits.{bitAnd, bitOr, and-step, or-step}
 use lib.Dec.{eqb, ltb}
 use lib.Pow.{shr-shr, high, low}
 use borrow.Author.Tests.{lt-ltb, le-ltb}
-use Rattle.numbers.specs.Packed.{bitOf, packed}
+use Rattle.numbers.specs.Packed.{bitOf, packed, bitIn}
 
 bit-of-lt : (b : Bool) → bitOf b < 2
 bit-of-lt true = omega arith
@@ -164,3 +164,26 @@ module _ (w k : ℕ) (f : ℕ → Bool) (h : k ≤ w) where
   -- a word shifted by k has each bit k lower
   pub packed-shift : packed w f / 2 ^ k ≡ packed w (λ j. ltb (k + j) w && f (k + j))
   packed-shift = subst (λ (x : ℕ). packed x f / 2 ^ k ≡ packed x (λ j. ltb (k + j) x && f (k + j))) whole (shifted-by k (w - k) f)
+
+-- ---- the bits of a number by its bits
+
+bit-of : (b : Bool) → eqb (bitOf b) 1 ≡ b
+bit-of true = refl
+bit-of false = refl
+
+-- a number by its bits has them
+pub packed-bit : (m j : ℕ) (f : ℕ → Bool) → j < m → bitIn (packed m f) j ≡ f j
+unfolding packed
+packed-bit zero j f h = absurd (omega arith)
+packed-bit (suc m) zero f h =
+    let all = packed m (λ i. f (suc i)) * 2 + bitOf (f 0) in
+    let whole : all / 1 ≡ all = omega arith in
+    ap (λ (x : ℕ). eqb (x % 2) 1) whole ∙ ap (λ (x : ℕ). eqb x 1) (digits-mod (packed m (λ i. f (suc i))) (bit-of-lt (f 0))) ∙ bit-of (f 0)
+packed-bit (suc m) (suc j) f h =
+    let rest = packed m (λ i. f (suc i)) in
+    let all = rest * 2 + bitOf (f 0) in
+    let half : all / 2 ≡ rest = digits-div rest (bit-of-lt (f 0)) in
+    let one : suc j ≡ 1 + j = omega arith in
+    ap (bitIn all) one
+    ∙ ap (λ (x : ℕ). eqb (x % 2) 1) (sym (shr-shr all 1 j) ∙ ap (λ (x : ℕ). x / 2 ^ j) half)
+    ∙ packed-bit m j (λ i. f (suc i)) (omega arith)

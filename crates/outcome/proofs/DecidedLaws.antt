@@ -19,7 +19,7 @@ use Rattle.types.specs.declared.stage.Stage.the-variants.{Open}
 use Rattle.job.specs.Machine.{run, fresh, decided}
 use Rattle.job.specs.Sound.{cap, Sound}
 use Rattle.job.specs.Calls.{callBudget, jobRules, budgetRange, pastCap, ifOpen, carryOn, carried}
-use Rattle.outcome.specs.Outcome.{outcomeWritten, handedBack, withMade}
+use Rattle.outcome.specs.Outcome.{outcomeWritten, handedBack, takenWith, withMade}
 use Rattle.job.proofs.MachineLaws.{fresh-table, fresh-k, open-or-ended, run-table}
 use Rattle.job.proofs.SoundLaws.{is-sound-correct}
 use Rattle.job.proofs.Soundness.{fresh-sound, run-sound-from}
@@ -78,15 +78,15 @@ module _ (j : Job) (a : Answered Job) {r : Carried} (says : r ≡ carried j a) w
       by (answered next) q = refl
       by (refused m) q = let z : _≡_ {A = ℕ} 0 1 = cc in absurd (omega arith)
 
-  -- which is handed back with the corrections made
-  pub carried-handed : (room : ℕ) → r .status ≡ Status′.Done
-      → withMade (r .made) (outcomeWritten room (r .job)) ≡ andThen a (handedBack room j)
-  carried-handed room e =
-      ap (λ (x : Carried). withMade (x .made) (outcomeWritten room (x .job))) says
+  -- what a call takes of which is handed back with the corrections made
+  pub carried-handed : {A : Type 0} (takes : Job → Answered A) → r .status ≡ Status′.Done
+      → withMade (r .made) (takes (r .job)) ≡ andThen a (takenWith takes j)
+  carried-handed takes e =
+      ap (λ (x : Carried). withMade (x .made) (takes (x .job))) says
       ∙ by a (ap (λ (x : Carried). x .status) (sym says) ∙ e)
     where
       by : (x : Answered Job) → carried j x .status ≡ Status′.Done
-          → withMade (carried j x .made) (outcomeWritten room (carried j x .job)) ≡ andThen x (handedBack room j)
+          → withMade (carried j x .made) (takes (carried j x .job)) ≡ andThen x (takenWith takes j)
       by (answered next) q = refl
       by (refused m) q = let z : _≡_ {A = ℕ} 0 1 = cc in absurd (omega arith)
 

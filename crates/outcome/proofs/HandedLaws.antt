@@ -10,12 +10,12 @@ use Rattle.writers.specs.Calls.{written}
 use Rattle.results.specs.Result.{asResult, Returned}
 use Rattle.outcome.specs.Outcome.{Handed, withMade, madeAfter, HandedOver}
 
-pub handed-as : {a b : Answered Handed} (old : List ℕ) (held : ℕ) → a ≡ b → {r : ℤ} {new : List ℕ} {made : ℕ} → HandedOver a old held r new made
+pub handed-as : {a b : Answered (Handed (List ℕ))} (old : List ℕ) (held : ℕ) → a ≡ b → {r : ℤ} {new : List ℕ} {made : ℕ} → HandedOver a old held r new made
     → HandedOver b old held r new made
-handed-as old held same {r} {new} {made} p = subst (λ (x : Answered Handed). HandedOver x old held r new made) same p
+handed-as old held same {r} {new} {made} p = subst (λ (x : Answered (Handed (List ℕ))). HandedOver x old held r new made) same p
 
 -- a refusal leaves both as they were
-pub handed-refused : {a : Answered Handed} (old : List ℕ) (held : ℕ) {n : ℕ} {r : ℤ} → refused n ≡ a → r ≡ asResult (refused n)
+pub handed-refused : {a : Answered (Handed (List ℕ))} (old : List ℕ) (held : ℕ) {n : ℕ} {r : ℤ} → refused n ≡ a → r ≡ asResult (refused n)
     → HandedOver a old held r old held
 handed-refused old held e q = handed-as old held e ((q, refl), refl)
 

@@ -1,3 +1,3 @@
 // What a job has come to, as the bytes of a record in a lent buffer, with the corrections made.
 pub mod handed;
-mod outcome;
+pub mod outcome;

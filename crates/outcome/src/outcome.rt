@@ -19,7 +19,7 @@ ghost use Rattle.writers.specs.Calls.{WroteBytes};
 ghost use Rattle.outcome.specs.Outcome.{jobOf, outcomeWritten, withMade, HandedOver};
 
 // Returns the counts of a state as a witness.
-fn witness_of(state: State) -> Witness
+pub fn witness_of(state: State) -> Witness
     ensures { λ r. ⌜ r ≡ record { counts = state .counts } ⌝ }
 {
     let counts = state.counts;
@@ -27,7 +27,7 @@ fn witness_of(state: State) -> Witness
 }
 
 // Writes what a job, a table with a state, has come to: a found one's table and gate, an otherwise ended one's table and witness, or the
-// open job. Refusal: 12.
+// open job. Refusals: 16 of an ended one whose table has a row that is not cared for; 12.
 pub fn write_outcome(table: Table, state: State, out: &mut [u8]) -> Written
     requires { ⌜ NoneBroken (jobRules (jobOf table state) []) ⌝ }
     ensures { λ r. ⌜ WroteBytes (outcomeWritten (length (now (out .entry))) (jobOf table state)) (now (out .entry)) r (now (out .exit)) ⌝ }
@@ -41,8 +41,8 @@ pub fn write_outcome(table: Table, state: State, out: &mut [u8]) -> Written
     }
 }
 
-// Writes what a job, a table with a state, has come to, and sets `made` to the corrections that a call has made. Returns the length, or the
-// refusal: 12.
+// Writes what a job, a table with a state, has come to, and sets `made` to the corrections that a call has made. Returns the length. Refusals:
+// 16, 12.
 pub fn put_outcome(
     table: Table,
     state: State,

@@ -73,3 +73,27 @@ loop6 6 808080a8e8faecfe N 27 30 42 44 49 50\n\
 worst4 4 ff07 G -14 -2 -3 -5 -10\n\
 worst4-loop 4 3f05 N 5 6 9 10\n\
 nor8 8 0100000000000000000000000000000000000000000000000000000000000000 G 0 -1 -1 -1 -1 -1 -1 -1 -1\n";
+
+// Partial tables: document 002's, an XOR with any one row left free, tables with few rows that are cared for or none, and some of the functions
+// above with rows left free.
+pub const PARTIAL: [u8; 1009] = *b"\
+002-g4 3 e0/f7 G 2 1 1 1\n\
+002-g4-before 3 e0/f7 G 3 1 1 2\n\
+xor-but-row-0 2 06/0e G -1 -1 -1\n\
+xor-but-row-1 2 04/0d G 1 -1 1\n\
+xor-but-row-2 2 02/0b G 1 1 -1\n\
+xor-but-row-3 2 06/07 G 1 1 1\n\
+no-row-0 0 00/00 G 1\n\
+no-row-2 2 00/00 G 0 0 0\n\
+no-row-8 8 00/00 G 335 90 42 126 108 16 80 12 136\n\
+true-row 2 08/08 G 2 1 1\n\
+false-row 2 00/08 G 3 1 1\n\
+q-below-0 3 16/17 G 1 1 1 1\n\
+xor-of-half 3 06/0f N 0 1 2 3\n\
+no-pair 4 0810/2814 N 3 12 5 10\n\
+m7-but-six 4 8878/e87e N 3 5 10 12\n\
+worst4-but-one 4 ff03/fffb G -7 0 -2 -2 -6\n\
+loop6-but-three 6 00808028e8faecfe/7fffff7ffffffeff N 27 30 42 44 49 50\n\
+s-but-four 7 80e8e8fee8eee8fe88e8e8fee8eeee7e/f7fffffffffffffffeffffffefffff7f G 17 8 8 6 6 5 3 1\n\
+late8-but-forty 8 008000a0800080e8000000a080e080f0a0f8a0faf8dec8ffa0faa0daf8dee8f7/debffeffdf1bebfff70faeebfbfbfff6ffffbffaffdfcafffffffddfffdeeef7 G 138 39 19 52 44 8 33 2 54\n\
+slow8-but-three 8 000000000000a0a0000080808080a0a80080a0a0a0a8eacaa0a0a8e8aafaffff/fffffffffffffffffdfffff7ffffffffffffffffffffffdfffffffffffffffff N 217 222 225 230\n";

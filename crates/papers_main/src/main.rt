@@ -1,8 +1,9 @@
 // Runs the checked calls over the functions and prints a line for each, then their number and whether the places past n were
-// idle and 0 in every one.
+// idle and 0 in every one; then the same over the partial tables.
 mod function;
 
 use papers::data::FUNCTIONS;
+use papers::data::PARTIAL;
 use papers::line::line_end;
 use papers::show;
 
@@ -36,4 +37,6 @@ fn summary(functions: u64, all_idle: bool) {
 fn main() {
     let lines = FUNCTIONS;
     run(&lines);
+    let partial = PARTIAL;
+    run(&partial);
 }

@@ -41,9 +41,9 @@ pub fn kind<'a>(r: Reader<'a>, takes: Takes) -> KindField
     read_kind(r.src, r.at, takes)
 }
 
-// Reads what follows a kind that was read. Refusals: the kind's; 1, 4, 2, 3 of the table; 7, 8 or 9 by the kind.
+// Reads what follows a kind byte that was read. Refusals: the kind's; 1, 4, 2, 3, 16 of the table; 7, 8 or 9 by the kind.
 pub fn body<'a>(r: Reader<'a>, kind: KindField) -> RecordField
-    ensures { λ q. ⌜ q ≡ recordField (bodyBy (kind .kind) (now (r .entry .src)) (r .entry .at)) ⌝ }
+    ensures { λ q. ⌜ q ≡ recordField (bodyBy (kind .said) (now (r .entry .src)) (r .entry .at)) ⌝ }
 {
     body_at(r.src, r.at, kind)
 }
@@ -55,9 +55,9 @@ pub fn end<'a>(r: Reader<'a>, body: RecordField) -> Read
     end_at(r.src, r.at, body)
 }
 
-// Reads the table that follows a kind that was read. Refusals: the kind's; 1, 4, 2, 3 of the table.
+// Reads the table that follows a kind byte that was read. Refusals: the kind's; 1, 4, 2, 3, 16 of the table.
 pub fn table<'a>(r: Reader<'a>, kind: KindField) -> TableField
-    ensures { λ q. ⌜ q ≡ tableField (tableBy (kind .kind) (now (r .entry .src)) (r .entry .at)) ⌝ }
+    ensures { λ q. ⌜ q ≡ tableField (tableBy (kind .said) (now (r .entry .src)) (r .entry .at)) ⌝ }
 {
     table_after(r.src, r.at, kind)
 }

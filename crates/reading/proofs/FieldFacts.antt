@@ -14,16 +14,17 @@ use mathlib.Core.List.{List, [], _∷_}
 use Rattle.cell.specs.Refusal.{Answered, answered, refused, andThen}
 use Rattle.types.specs.declared.vector.Vector.{Vector}
 use Rattle.codec.specs.Field.{Field, Reading, field, onward}
-use Rattle.codec.specs.Kind.{Family, tables, gates, witnesses, jobs}
+use Rattle.codec.specs.Kind.{Family, tables, gates, witnesses, jobs, Head, head}
 use Rattle.types.specs.declared.kind.Kind.{Kind}
 use Rattle.types.specs.declared.kind.Kind.the-variants as Kind′
+use Rattle.reading.specs.declared.kind.KindByte.{KindByte}
 use Rattle.reading.specs.declared.number.NumberField.{NumberField}
 use Rattle.reading.specs.declared.vector.SignedField.{SignedField}
 use Rattle.reading.specs.declared.vector.VectorField.{VectorField}
 use Rattle.reading.specs.declared.tables.BitsField.{BitsField}
 use Rattle.reading.specs.declared.tables.TableField.{TableField}
 use Rattle.types.proofs.kind.Kind.{the-type}
-use Rattle.reading.specs.Fields.{asKind, familyOf, kindField, numberField, signedField, vectorField, bitsField, tableField}
+use Rattle.reading.specs.Fields.{asKind, familyOf, kindByte, headOf, kindField, numberField, signedField, vectorField, bitsField, tableField}
 
 -- the struct X of a reading of A: its status, and the field that it holds
 pub record Shows {A X : Type 0} (struct : Reading A → X) : Type 0 where
@@ -122,15 +123,24 @@ family-back (answered witnesses) = refl
 family-back (answered jobs) = refl
 family-back (refused n) = refl
 
--- what follows a kind that was read, where that ended
-pub after-kind : {A : Type 0} (body : Family → List ℕ → ℕ → Reading A) (s : List ℕ) (r : Reading Family)
-    → andThen (familyOf (kindField r .kind)) (λ f. body f s (kindField r .next)) ≡ onward r (λ f p. body f s p)
-after-kind body s (answered f) = ap (λ (a : Answered Family). andThen a (λ g. body g s (f .next))) (family-back (answered (f .value)))
+-- what the code's kind byte says is what was said
+pub head-back : (r : Answered Head) → headOf (kindByte r) ≡ r
+head-back (answered h) = ap (λ (a : Answered Family). andThen a (λ f. answered (head f (h .cares)))) (family-back (answered (h .family)))
+head-back (refused n) = refl
+
+-- what follows a kind byte that was read, where that ended
+pub after-kind : {A : Type 0} (body : Head → List ℕ → ℕ → Reading A) (s : List ℕ) (r : Reading Head)
+    → andThen (headOf (kindField r .said)) (λ h. body h s (kindField r .next)) ≡ onward r (λ h p. body h s p)
+after-kind body s (answered f) = ap (λ (a : Answered Head). andThen a (λ h. body h s (f .next))) (head-back (answered (f .value)))
 after-kind body s (refused n) = refl
 
--- what the code's kind says of the family
-pub family-is : (r : Answered Family) {k : Kind} → k ≡ asKind r → r ≡ familyOf k
-family-is r e = sym (family-back r) ∙ ap familyOf (sym e)
+-- what the code's kind byte says
+pub head-is : (r : Answered Head) {b : KindByte} → b ≡ kindByte r → r ≡ headOf b
+head-is r e = sym (head-back r) ∙ ap headOf (sym e)
+
+-- a refused kind says its number
+pub head-refused : (b : KindByte) {n : ℕ} → b .kind ≡ Kind′.Refused n → headOf b ≡ refused n
+head-refused b e = ap (λ (k : Kind). andThen (familyOf k) (λ f. answered (head f (b .cares)))) e
 
 -- it is one of the kinds of a record
 abbrev pub Whole : Kind → Type 0
@@ -147,5 +157,8 @@ kind-family (Kind′.Refused n) w = absurd (none w)
     none : OneOf (0 ∷ 1 ∷ 2 ∷ 3 ∷ []) 4 → ⊥
     none = ⊎-elim (λ e. omega arith) (⊎-elim (λ e. omega arith) (⊎-elim (λ e. omega arith) (λ e. omega arith)))
 
-pub whole-family : (r : Answered Family) → Whole (asKind r) → (f : Family) × (r ≡ answered f)
-whole-family r w = let (f, is) = kind-family (asKind r) w in (f, sym (family-back r) ∙ is)
+-- one that is no refusal says a head
+pub head-whole : (b : KindByte) → Whole (b .kind) → (h : Head) × (headOf b ≡ answered h) × (h .cares ≡ b .cares)
+head-whole b w =
+    let (f, is) = kind-family (b .kind) w in
+    (head f (b .cares), ap (λ (a : Answered Family). andThen a (λ g. answered (head g (b .cares)))) is, refl)

@@ -1,5 +1,6 @@
 -- What the structs of read fields stand for: the value with the position after it, or the number of a refusal with zeros beside it.
 -- Definitions only. Assumes nothing.
+use mathlib.Core.Bool.{false}
 use mathlib.Core.List.{List}
 use Prim.Native.Nat.{ℕ}
 use lib.ListN.{replicate}
@@ -10,12 +11,13 @@ use Rattle.cell.specs.declared.refusal.Status.the-variants as Status′
 use Rattle.types.specs.declared.vector.Vector.{Vector}
 use Rattle.function.specs.Vector.{zeroVector}
 use Rattle.codec.specs.Field.{Reading}
-use Rattle.codec.specs.Kind.{Family, tables, gates, witnesses, jobs, everyFamily, tablesAlone}
+use Rattle.codec.specs.Kind.{Family, tables, gates, witnesses, jobs, Head, head, everyKind, tablesAlone}
 use Rattle.codec.specs.TableField.{tableAt}
 use Rattle.types.specs.declared.kind.Kind.{Kind}
 use Rattle.types.specs.declared.kind.Kind.the-variants as Kind′
 use Rattle.reading.specs.declared.kind.Takes.{Takes}
 use Rattle.reading.specs.declared.kind.Takes.the-variants as Takes′
+use Rattle.reading.specs.declared.kind.KindByte.{KindByte}
 use Rattle.reading.specs.declared.kind.KindField.{KindField}
 use Rattle.reading.specs.declared.number.NumberField.{NumberField}
 use Rattle.reading.specs.declared.vector.SignedField.{SignedField}
@@ -41,14 +43,23 @@ familyOf Kind′.Witness = answered witnesses
 familyOf Kind′.Job = answered jobs
 familyOf (Kind′.Refused n) = refused n
 
--- the families that a caller takes
-abbrev pub takenBy : Takes → List Family
-takenBy Takes′.Every = everyFamily
+-- the kinds that a caller takes
+abbrev pub takenBy : Takes → List Head
+takenBy Takes′.Every = everyKind
 takenBy Takes′.Tables = tablesAlone
 
-abbrev pub kindField : Reading Family → KindField
-kindField (answered f) = record { kind = asKind (answered (f .value)); next = f .next }
-kindField (refused n) = record { kind = Kind′.Refused n; next = 0 }
+-- what a kind byte says, in the code's kind; no care bytes beside a refusal
+abbrev pub kindByte : Answered Head → KindByte
+kindByte (answered h) = record { kind = asKind (answered (h .family)); cares = h .cares }
+kindByte (refused n) = record { kind = Kind′.Refused n; cares = false }
+
+abbrev pub kindField : Reading Head → KindField
+kindField (answered f) = record { said = kindByte (answered (f .value)); next = f .next }
+kindField (refused n) = record { said = kindByte (refused n); next = 0 }
+
+-- what it says, by the family
+abbrev pub headOf : KindByte → Answered Head
+headOf b = andThen (familyOf (b .kind)) (λ f. answered (head f (b .cares)))
 
 -- ---- the other fields
 
@@ -69,12 +80,12 @@ bitsField (answered f) = record { status = Status′.Done; bits = f .value; next
 bitsField (refused n) = record { status = Status′.Refused n; bits = replicate 32 0; next = 0 }
 
 abbrev pub noTable : Table
-noTable = record { n = 0; bytes = replicate 32 0 }
+noTable = record { n = 0; bytes = replicate 32 0; cares = replicate 32 0 }
 
 abbrev pub tableField : Reading Table → TableField
 tableField (answered f) = record { status = Status′.Done; table = f .value; next = f .next }
 tableField (refused n) = record { status = Status′.Refused n; table = noTable; next = 0 }
 
--- the table that follows a kind that was read; a refused one is passed on
-abbrev pub tableBy : Kind → List ℕ → ℕ → Reading Table
-tableBy kind s at = andThen (familyOf kind) (λ f. tableAt s at)
+-- the table that follows a kind byte that was read; a refused one is passed on
+abbrev pub tableBy : KindByte → List ℕ → ℕ → Reading Table
+tableBy said s at = andThen (headOf said) (λ (h : Head). tableAt (h .cares) s at)

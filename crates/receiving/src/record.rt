@@ -14,7 +14,7 @@ ghost use Rattle.reading.specs.Fields.{tableField};
 ghost use Rattle.records.specs.Record.{readRecord};
 ghost use Rattle.records.specs.Calls.{asRead};
 
-// Reads a single record: its kind byte, what follows it, and the end. Refusals: 1 to 9.
+// Reads a single record: its kind byte, what follows it, and the end. Refusals: 1 to 9, 16.
 pub fn read(bytes: &[u8]) -> Read
     ensures { λ q. ⌜ q ≡ asRead (readRecord (now (bytes .entry))) ⌝ }
 {
@@ -25,7 +25,7 @@ pub fn read(bytes: &[u8]) -> Read
     end(moved(second, body.next), body)
 }
 
-// Reads the record of a table alone from a position on, as a report's reader travels from one to the next. Refusals: 1, 5, 4, 2, 3.
+// Reads the record of a table alone from a position on, as a report's reader travels from one to the next. Refusals: 1, 5, 4, 2, 3, 16.
 pub fn table_at(bytes: &[u8], at: usize) -> TableField
     ensures { λ q. ⌜ q ≡ tableField (tableRecordAt (now (bytes .entry)) at) ⌝ }
 {

@@ -8,11 +8,11 @@ use lib.Dec.{ltb, eqb}
 use lib.ListN.{length, getD}
 use Rattle.cell.specs.Refusal.{Answered, rule, answered, refused, andThen, checked}
 use Rattle.codec.specs.Field.{Reading, field, onward}
-use Rattle.codec.specs.Kind.{Family, tables, everyFamily, tablesAlone, familyIn, kindAt}
+use Rattle.codec.specs.Kind.{Family, tables, Head, head, everyKind, tablesAlone, headIn, kindAt}
 use Rattle.codec.specs.TableField.{tableAt, tableRecordAt}
 use Rattle.reading.specs.Fields.{familyOf, kindField}
 use Rattle.reading.proofs.FieldFacts.{after-kind}
-use Rattle.records.specs.Record.{Record, ofTable, ofGate, ofWitness, ofJob, family, bodyAt, bytesLeft, recordAt, singleAt}
+use Rattle.records.specs.Record.{Record, ofTable, ofGate, ofWitness, ofJob, family, restAt, bodyAt, bytesLeft, recordAt, singleAt}
 use Rattle.records.specs.Calls.{asRead, recordField, bodyBy, endIn, ended}
 
 -- the kind beside a record is that of its family
@@ -39,20 +39,25 @@ body-ended s (refused n) = refl
 
 -- a whole record
 pub record-read : (s : List ℕ) (at : ℕ)
-    → (let k = kindField (kindAt everyFamily s at) in let b = recordField (bodyBy (k .kind) s (k .next)) in ended (b .read) s (b .next)) ≡ asRead (singleAt s at)
+    → (let k = kindField (kindAt everyKind s at) in let b = recordField (bodyBy (k .said) s (k .next)) in ended (b .read) s (b .next)) ≡ asRead (singleAt s at)
 unfolding recordAt singleAt
 record-read s at =
-    ap (λ (r : Reading Record). let b = recordField r in ended (b .read) s (b .next)) (after-kind bodyAt s (kindAt everyFamily s at)) ∙ body-ended s (recordAt everyFamily s at)
+    ap (λ (r : Reading Record). let b = recordField r in ended (b .read) s (b .next)) (after-kind bodyAt s (kindAt everyKind s at)) ∙ body-ended s (recordAt everyKind s at)
 
 -- a record of a report is what the definition of records gives where tables alone are taken; no proof cites it, it joins the two definitions
 pub table-alone : (s : List ℕ) (at : ℕ) → recordAt tablesAlone s at ≡ onward (tableRecordAt s at) (λ t next. answered (field (ofTable t) next))
-unfolding familyIn tableRecordAt bodyAt recordAt
-table-alone s at = by (ltb (length s) (at + 1)) (eqb (getD s at 0) 1)
+unfolding headIn tableRecordAt restAt bodyAt recordAt
+table-alone s at = by (ltb (length s) (at + 1)) (eqb (getD s at 0) 1) (eqb (getD s at 0) 5)
   where
-    kind : (early is : Bool) → Reading Family
-    kind early is = checked (rule 1 early ∷ []) (andThen (cond is (answered tables) (refused 5)) (λ f. answered (field f (at + 1))))
+    kind : (early whole partial : Bool) → Reading Head
+    kind early whole partial =
+        checked (rule 1 early ∷ [])
+        (andThen (cond whole (answered (head tables false)) (cond partial (answered (head tables true)) (refused 5))) (λ h. answered (field h (at + 1))))
 
-    by : (early is : Bool) → onward (kind early is) (λ f p. bodyAt f s p) ≡ onward (onward (kind early is) (λ f p. tableAt s p)) (λ t next. answered (field (ofTable t) next))
-    by true is = refl
-    by false true = refl
-    by false false = refl
+    by : (early whole partial : Bool)
+        → onward (kind early whole partial) (λ h p. bodyAt h s p)
+        ≡ onward (onward (kind early whole partial) (λ (h : Head) (p : ℕ). tableAt (h .cares) s p)) (λ t next. answered (field (ofTable t) next))
+    by true whole partial = refl
+    by false true partial = refl
+    by false false true = refl
+    by false false false = refl

@@ -11,7 +11,8 @@ use Rattle.codec.specs.Field.{Reading}
 use Rattle.codec.specs.Kind.{Family}
 use Rattle.types.specs.declared.kind.Kind.{Kind}
 use Rattle.types.specs.declared.kind.Kind.the-variants as Kind′
-use Rattle.reading.specs.Fields.{familyOf, noTable}
+use Rattle.reading.specs.Fields.{familyOf, headOf, noTable}
+use Rattle.reading.specs.declared.kind.KindByte.{KindByte}
 use Rattle.records.specs.declared.read.Read.{Read}
 use Rattle.records.specs.declared.read.RecordField.{RecordField}
 use Rattle.records.specs.Record.{Record, ofTable, ofGate, ofWitness, ofJob, bodyAt, bytesLeft}
@@ -33,9 +34,9 @@ abbrev pub recordField : Reading Record → RecordField
 recordField (answered f) = record { read = asRead (answered (f .value)); next = f .next }
 recordField (refused n) = record { read = asRead (refused n); next = 0 }
 
--- what follows a kind that was read; a refused one is passed on
-abbrev pub bodyBy : Kind → List ℕ → ℕ → Reading Record
-bodyBy kind s at = andThen (familyOf kind) (λ f. bodyAt f s at)
+-- what follows a kind byte that was read; a refused one is passed on
+abbrev pub bodyBy : KindByte → List ℕ → ℕ → Reading Record
+bodyBy said s at = andThen (headOf said) (λ h. bodyAt h s at)
 
 -- what was read, and what is found where it ended: a refusal is passed on
 abbrev pub endIn : Answered Family → Read → Answered Read → Read

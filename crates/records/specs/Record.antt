@@ -7,7 +7,7 @@ use lib.ListN.{length}
 use Rattle.types.specs.declared.table.Table.{Table}
 use Rattle.types.specs.declared.gate.Gate.{Gate}
 use Rattle.types.specs.declared.witness.Witness.{Witness}
-use Rattle.table.specs.Table.{rows}
+use Rattle.table.specs.Table.{rows, isWhole}
 use Rattle.cell.specs.Refusal.{Rule, rule, Answered, answered, checked}
 use Rattle.types.specs.declared.vector.Vector.{Vector}
 use Rattle.numbers.specs.Power.{highest}
@@ -19,10 +19,10 @@ use Rattle.codec.specs.Field.{Reading, field, onward}
 use Rattle.codec.specs.Number.{numberBytes, numberAt}
 use Rattle.codec.specs.VectorField.{vectorBytes, vectorAt}
 use Rattle.codec.specs.RowList.{RowList, rowListBytes, rowListAt}
-use Rattle.codec.specs.Kind.{Family, tables, gates, witnesses, jobs, kindOf, everyFamily, recordWith}
+use Rattle.codec.specs.Kind.{Family, tables, gates, witnesses, jobs, Head, head, headKind, everyKind, recordWith}
 use Rattle.codec.specs.TableField.{tableBytes, tableAt}
 
--- kinds 1 to 4: a table; a table with a gate; with a witness; an open job
+-- a table (kinds 1 and 5); a table with a gate (2); with a witness (3); an open job (4 and 6)
 pub data Record : Type 0 where
   ofTable : Table → Record
   ofGate : Table → Gate → Record
@@ -36,13 +36,24 @@ family (ofGate t g) = gates
 family (ofWitness t w) = witnesses
 family (ofJob j) = jobs
 
+-- the table of a record
+abbrev pub tableIn : Record → Table
+tableIn (ofTable t) = t
+tableIn (ofGate t g) = t
+tableIn (ofWitness t w) = t
+tableIn (ofJob j) = j .table
+
+-- what the kind byte of a record says: care bytes follow where a row of its table is not cared for
+abbrev pub headIn : Record → Head
+headIn x = head (family x) (not (isWhole (tableIn x)))
+
 -- the weights and T of a gate as a vector; back it is `vectorGate`
 abbrev pub gateVector : Gate → Vector
 gateVector g = record { a = g .weights; b = g .threshold }
 
 -- ---- written
 
--- after the table, kind 4 has K, v, s, and a row list
+-- after the table, kinds 4 and 6 have K, v, s, and a row list
 abbrev pub numbersBytes : Job → List ℕ
 numbersBytes j = (numberBytes (j .state .k) ++ vectorBytes (j .table .n) (j .state .v)) ++ vectorBytes (j .table .n) (j .state .s)
 
@@ -58,7 +69,7 @@ bodyBytes (ofJob j) = tableBytes (j .table) ++ jobBytes j
 
 unfoldable pub recordBytes : Record → List ℕ
 unfolding bodyBytes
-recordBytes x = kindOf (family x) ∷ bodyBytes x
+recordBytes x = headKind (headIn x) ∷ bodyBytes x
 
 -- ---- read
 
@@ -70,7 +81,7 @@ gateAt t s at = onward (vectorAt true (t .n) s at) (λ v next. answered (field (
 abbrev pub witnessAt : Table → List ℕ → ℕ → Reading Record
 witnessAt t s at = onward (rowListAt true (rows t) s at) (λ list next. answered (field (ofWitness t (record { counts = list .counts })) next))
 
--- the open job of the numbers of a kind 4 record. M is not stored: it is the highest power of two not above K
+-- the open job of the numbers of a kind 4 or 6 record. M is not stored: it is the highest power of two not above K
 abbrev pub openJob : Table → ℕ → Vector → Vector → List ℕ → Job
 openJob t k v s counts = record { table = t; state = record { k = k; v = v; mark = highest k; s = s; counts = counts; stage = Open } }
 
@@ -78,7 +89,7 @@ openJob t k v s counts = record { table = t; state = record { k = k; v = v; mark
 abbrev pub unsoundJob : RowList → Job → Rule
 unsoundJob list j = rule 9 (not (list .kept && isSound j))
 
--- of kind 4, after K, v and s: each number 1, 4; after the last 9
+-- of kinds 4 and 6, after K, v and s: each number 1, 4; after the last 9
 abbrev pub countsAt : Table → ℕ → Vector → Vector → List ℕ → ℕ → Reading Record
 countsAt t k v w s at =
     onward (rowListAt false (rows t) s at) (λ list next.
@@ -89,29 +100,29 @@ abbrev pub jobAt : Table → List ℕ → ℕ → Reading Record
 jobAt t s at =
     onward (numberAt s at) (λ k p. onward (vectorAt false (t .n) s p) (λ v q. onward (vectorAt false (t .n) s q) (λ w r. countsAt t k v w s r)))
 
--- a table, and what follows it
-abbrev pub afterTable : (Table → List ℕ → ℕ → Reading Record) → List ℕ → ℕ → Reading Record
-afterTable rest s at = onward (tableAt s at) (λ t p. rest t s p)
+-- what follows the table, by the family
+unfoldable pub restAt : Family → Table → List ℕ → ℕ → Reading Record
+restAt tables t s at = answered (field (ofTable t) at)
+restAt gates t s at = gateAt t s at
+restAt witnesses t s at = witnessAt t s at
+restAt jobs t s at = jobAt t s at
 
--- what follows the kind byte, by the family
-unfoldable pub bodyAt : Family → List ℕ → ℕ → Reading Record
-bodyAt tables s at = afterTable (λ t s p. answered (field (ofTable t) p)) s at
-bodyAt gates s at = afterTable gateAt s at
-bodyAt witnesses s at = afterTable witnessAt s at
-bodyAt jobs s at = afterTable jobAt s at
+-- what follows the kind byte, by what it says: a table, and what follows it
+unfoldable pub bodyAt : Head → List ℕ → ℕ → Reading Record
+bodyAt h s at = onward (tableAt (h .cares) s at) (λ t p. restAt (h .family) t s p)
 
--- a record from a position on, of the families that a caller takes
-unfoldable pub recordAt : List Family → List ℕ → ℕ → Reading Record
+-- a record from a position on, of the kinds that a caller takes
+unfoldable pub recordAt : List Head → List ℕ → ℕ → Reading Record
 recordAt takes s at = recordWith takes bodyAt s at
 
 -- 6: bytes left after a single record
 abbrev pub bytesLeft : List ℕ → ℕ → Rule
 bytesLeft s at = rule 6 (ltb at (length s))
 
--- the single record, of every family, from a position to the end
+-- the single record, of every kind, from a position to the end
 unfoldable pub singleAt : List ℕ → ℕ → Answered Record
 unfolding recordAt
-singleAt s at = onward (recordAt everyFamily s at) (λ x next. checked (bytesLeft s next ∷ []) (answered x))
+singleAt s at = onward (recordAt everyKind s at) (λ x next. checked (bytesLeft s next ∷ []) (answered x))
 
 -- what bytes mean: one record, or one number
 abbrev pub readRecord : List ℕ → Answered Record

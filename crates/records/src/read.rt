@@ -63,6 +63,7 @@ fn bare(kind: Kind, table: Table) -> Read
             table: Table {
                 n: 0,
                 bytes: [0u8; 32],
+                cares: [0u8; 32],
             },
             state: State {
                 k: 0,
@@ -83,6 +84,7 @@ fn refused(number: u8) -> Read
     let table = Table {
         n: 0,
         bytes: [0u8; 32],
+        cares: [0u8; 32],
     };
     bare(Kind::Refused(number), table)
 }
@@ -209,16 +211,17 @@ fn read_job(bytes: &[u8], at: usize, table: Table) -> RecordField
     read_counts(bytes, s.next, table, k.value, v.v, s.v)
 }
 
-// Reads what follows a kind that was read, at a position. Refusals: the kind's; 1, 4, 2, 3 of the table; 7, 8 or 9 by the kind.
+// Reads what follows a kind byte that was read, at a position. Refusals: the kind's; 1, 4, 2, 3, 16 of the table; 7, 8 or 9 by the kind.
 pub fn body_at(bytes: &[u8], at: usize, field: KindField) -> RecordField
-    ensures { λ r. ⌜ r ≡ recordField (bodyBy (field .kind) (now (bytes .entry)) at) ⌝ }
+    ensures { λ r. ⌜ r ≡ recordField (bodyBy (field .said) (now (bytes .entry)) at) ⌝ }
 {
-    let kind = field.kind;
+    let said = field.said;
+    let kind = said.kind;
     if let Kind::Refused(number) = kind {
         return no_body(number);
     }
     // every kind begins with a table: it is read once, before the kind is looked at again
-    let read = read_table(bytes, at);
+    let read = read_table(bytes, at, said.cares);
     let status = read.status;
     if let Status::Refused(number) = status {
         return no_body(number);

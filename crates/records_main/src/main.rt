@@ -36,7 +36,7 @@ fn run_line(line: &[u8]) {
 }
 
 fn main() {
-    let mut lines = [0u8; 16384];
+    let mut lines = [0u8; 32768];
     let length = io::read_full(STDIN_FILENO, &mut lines);
     run(&lines[..length]);
 }

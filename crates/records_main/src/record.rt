@@ -41,6 +41,7 @@ pub fn bare(kind: Kind) -> Read {
     let table = Table {
         n: 0,
         bytes: [0u8; 32],
+        cares: [0u8; 32],
     };
     Read {
         kind,
@@ -135,8 +136,8 @@ pub fn number_of(kind: Kind) -> u8 {
     }
 }
 
-// Returns a record's kind, 0 for a refusal.
-fn kind_byte(kind: Kind) -> u8 {
+// Returns a number for what a record holds, 0 for a refusal.
+fn kind_number(kind: Kind) -> u8 {
     match kind {
         Kind::Table => 1,
         Kind::Gate => 2,
@@ -148,7 +149,7 @@ fn kind_byte(kind: Kind) -> u8 {
 
 // Whether two records are of one kind, or refusals of one number.
 fn same_kind(x: Kind, y: Kind) -> bool {
-    kind_byte(x) == kind_byte(y) && number_of(x) == number_of(y)
+    kind_number(x) == kind_number(y) && number_of(x) == number_of(y)
 }
 
 // Whether tables, gates and witnesses are the same.

@@ -4,8 +4,8 @@ use crate::make;
 use crate::show;
 use cell::checker::check_gate;
 use cell::value::gate_value;
+use cell::whole::whole_table;
 use types::gate::Gate;
-use types::table::Table;
 ghost use Prim.Native.Nat.{_<_};
 
 // The limits of a weight, what lies just beyond them, and the ends of the type, at each place.
@@ -123,7 +123,7 @@ pub fn inputs() {
     pair(255, 0, 0, 0, 0, 0);
 }
 
-// 2, 3, 7: 2 with 3, 2 with 7, 3 with 7 by a weight, by T and by a place past n, and all three.
+// 2, 3, 7, of tables with every row cared for (16 is in `partial_main`): 2 with 3, 2 with 7, 3 with 7 by a weight, by T and by a place past n, and all three.
 pub fn check_gate_order() {
     pair(2, 16, 3, 0, 0, 0);
     pair(9, 16, 9, 0, 0, 0);
@@ -187,6 +187,6 @@ fn or_of_eight(text: &[u8], weight: i32) {
         weights: [weight; 8],
         threshold: weight,
     };
-    show::answer(b": check_gate", check_gate(Table { n: 8, bytes }, gate));
+    show::answer(b": check_gate", check_gate(whole_table(8, bytes), gate));
     show::end();
 }

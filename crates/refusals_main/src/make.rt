@@ -1,16 +1,17 @@
 // Tables, gates and witnesses that hold 0 but in one place.
+use cell::whole::whole_table;
 use types::gate::Gate;
 use types::table::Table;
 use types::witness::Witness;
 ghost use Prim.Native.Nat.{_<_};
 
-// Returns the table with one byte.
+// Returns the table with one byte, and every row cared for.
 pub fn table(n: u8, at: usize, byte: u8) -> Table
     requires { ⌜ at < 32 ⌝ }
 {
     let mut bytes = [0u8; 32];
     bytes[at] = byte;
-    Table { n, bytes }
+    whole_table(n, bytes)
 }
 
 // Returns the gate with one weight, and T.

@@ -46,7 +46,7 @@ fn row(n: u8, row: usize) {
     show::end();
 }
 
-// 2, 3, 14: 2 with 3, 3 with 14 by a bit and by a byte, and all three.
+// 2, 3, 14, of tables with every row cared for (16 is in `partial_main`): 2 with 3, 3 with 14 by a bit and by a byte, and all three.
 pub fn table_value_order() {
     row_of_table(9, 0, 1, 0);
     row_of_table(2, 0, 16, 4);

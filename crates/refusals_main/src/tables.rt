@@ -6,6 +6,7 @@ use cell::checker::check_witness;
 use cell::chow::chow_parameters;
 use cell::inputs::input_kinds;
 use cell::value::table_value;
+use cell::whole::whole_table;
 use types::inputs::InputKind;
 use types::inputs::Place;
 use types::table::Table;
@@ -78,10 +79,7 @@ fn one(n: u8, at: usize, byte: u8)
 fn all(n: u8) {
     show::field(b"table n ", n as u64);
     show::word(b" all bytes 255");
-    calls(Table {
-        n,
-        bytes: [255u8; 32],
-    });
+    calls(whole_table(n, [255u8; 32]));
 }
 
 // The row is 0, the gate is true on every row, and the witness counts row 0 alone.

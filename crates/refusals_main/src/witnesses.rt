@@ -2,6 +2,7 @@
 use crate::make;
 use crate::show;
 use cell::checker::check_witness;
+use cell::whole::whole_table;
 use types::table::Table;
 use types::witness::Witness;
 ghost use Prim.Native.Nat.{_<_};
@@ -45,7 +46,7 @@ pub fn rows() {
     one(8, 0, 255, 1);
 }
 
-// 2, 3, 8: 2 with 3, 2 with 8, 3 with 8 by no count, by a large one and by a row past the table, and all three.
+// 2, 3, 8, of tables with every row cared for (16 is in `partial_main`): 2 with 3, 2 with 8, 3 with 8 by no count, by a large one and by a row past the table, and all three.
 pub fn check_witness_order() {
     one(9, 16, 0, 1);
     one(9, 0, 0, 0);
@@ -85,13 +86,7 @@ fn all(n: u8, count: u32) {
     show::field(b"table n ", n as u64);
     show::field(b" all bytes 102 all counts ", count as u64);
     let counts = [count; 256];
-    check(
-        Table {
-            n,
-            bytes: [102u8; 32],
-        },
-        Witness { counts },
-    );
+    check(whole_table(n, [102u8; 32]), Witness { counts });
 }
 
 // The XOR and the AND of two inputs, with a count for each row: both totals and each input's; a total or an input's that is apart; true

@@ -51,7 +51,7 @@ recordThen rest t (refused n) = refusalLine (t .records + 1) n ++ lastLine t
 recordThen rest t (answered f) =
     recordLine (t .records + 1) (decided (f .value)) ++ rest (f .next) (counted (decided (f .value) .state .stage) (decided (f .value) .state .k) t)
 
--- from a position on: kind 1 records one after another, at most so many
+-- from a position on: records of kinds 1 and 5 one after another, at most so many
 unfoldable pub reportFrom : ℕ → List ℕ → ℕ → Tally → List ℕ
 reportFrom zero s at t = lastLine t
 reportFrom (suc left) s at t = let rest = recordThen (reportFrom left s) t (tableRecordAt s at) in cond (ltb at (length s)) rest (lastLine t)

@@ -1,5 +1,5 @@
-// Prints the reports of inputs: whole records, a refusal of each number, means on a half and beside one, the longest input, and large sums.
-// Each comes after a line that names and spells the input.
+// Prints the reports of inputs: whole records, a refusal of each number, means on a half and beside one, the longest input, large sums, and
+// tables with rows that are not cared for. Each comes after a line that names and spells the input.
 mod input;
 mod inputs;
 
@@ -21,4 +21,5 @@ fn main() {
     run(&inputs::MEANS);
     run(&inputs::LONG);
     run(&inputs::SUMS);
+    run(&inputs::PARTIAL);
 }

@@ -1,6 +1,6 @@
 -- What was read of bytes, to a call on the records of one family: what the call comes to on them and on others, and that they keep their
 -- rules. Assumes nothing.
-use mathlib.Core.Path.{_≡_, refl, sym, _∙_, ap}
+use mathlib.Core.Path.{_≡_, refl, sym, _∙_, ap, subst}
 use mathlib.Core.Logic.{⊎-elim}
 use mathlib.Core.List.{List, [], _∷_}
 use Prim.Native.Nat.{ℕ, _≤_}
@@ -14,18 +14,22 @@ use Rattle.types.specs.declared.gate.Gate.{Gate}
 use Rattle.types.specs.declared.kind.Kind.{Kind}
 use Rattle.types.specs.declared.kind.Kind.the-variants as Kind′
 use Rattle.types.proofs.kind.Kind.{the-type}
+use Rattle.numbers.specs.Tests.{allBelow, allAtMost}
+use Rattle.table.specs.Table.{bitAt, spareSet, strayValue}
 use Rattle.cell.specs.Refusal.{Rule, Answered, answered, refused, NoneBroken, also, andThen}
-use Rattle.cell.specs.Calls.{tableRules, gateRules}
+use Rattle.cell.specs.Calls.{otherInputs, tableRules}
 use Rattle.cell.proofs.RefusalLaws.{answered-none-broken}
-use Rattle.cell.proofs.TableChecked.{kept-inputs, gate-inputs, table-kept}
+use Rattle.cell.proofs.TableChecked.{kept-inputs, table-keeps}
 use Rattle.job.specs.declared.job.Job.{Job}
 use Rattle.codec.specs.Kind.{Family, tables, gates, witnesses, jobs}
 use Rattle.codec.proofs.StandsLaws.{AllBytes}
 use Rattle.records.specs.declared.read.Read.{Read}
-use Rattle.records.specs.Record.{Record, ofTable, ofGate, ofWitness, ofJob, recordBytes, readRecord}
+use Rattle.reading.specs.Fields.{noTable}
+use Rattle.records.specs.Record.{Record, ofTable, ofGate, ofWitness, ofJob, tableIn, recordBytes, readRecord}
 use Rattle.records.specs.Calls.{asRead}
 use Rattle.writers.specs.Calls.{tooShort, recordRules}
 use Rattle.writers.proofs.WriteBack.{write-back}
+use Rattle.writers.proofs.KeptLaws.{kept-table}
 use Rattle.results.specs.Result.{numberFor, case, caseOf, saidOf}
 use Rattle.requests.specs.Taken.{partsOf, takenOf}
 
@@ -86,7 +90,7 @@ no-answer e = let z : _≡_ {A = ℕ} 0 1 = cc in absurd (omega arith)
 same-answer : {A : Type 0} {a b : A} → answered a ≡ answered b → a ≡ b
 same-answer e = cc
 
--- a call on a table is given that of a kind 1 record, one on a gate or a witness the parts of its record, one on a job that of kind 4
+-- a call on a table is given that of a kind 1 or 5 record, one on a gate the parts of its record, one on a job that of kind 4 or 6
 pub is-table : (a : Answered Record) (x : Table) → takenOf tables (λ (r : Read). r .table) (asRead a) ≡ answered x → a ≡ answered (ofTable x)
 unfolding caseOf
 is-table (answered (ofTable t)) x e = ap (λ (t : Table). answered (ofTable t)) (same-answer e)
@@ -103,14 +107,6 @@ is-gate (answered (ofWitness t w)) x e = no-answer e
 is-gate (answered (ofJob j)) x e = no-answer e
 is-gate (refused n) x e = no-answer e
 
-is-witness : (a : Answered Record) (x : Read) → takenOf witnesses (λ (r : Read). r) (asRead a) ≡ answered x → a ≡ answered (ofWitness (x .table) (x .witness))
-unfolding caseOf
-is-witness (answered (ofTable t)) x e = no-answer e
-is-witness (answered (ofGate t g)) x e = no-answer e
-is-witness (answered (ofWitness t w)) x e = ap (λ (r : Read). answered (ofWitness (r .table) (r .witness))) (same-answer e)
-is-witness (answered (ofJob j)) x e = no-answer e
-is-witness (refused n) x e = no-answer e
-
 pub is-job : (a : Answered Record) (x : Job) → takenOf jobs (λ (r : Read). r .job) (asRead a) ≡ answered x → a ≡ answered (ofJob x)
 unfolding caseOf
 is-job (answered (ofTable t)) x e = no-answer e
@@ -120,11 +116,13 @@ is-job (answered (ofJob j)) x e = ap (λ (j : Job). answered (ofJob j)) (same-an
 is-job (refused n) x e = no-answer e
 
 -- a gate beside a table has as many inputs
-gate-few : (t : Table) (g : Gate) {rest : List Rule} → NoneBroken (gateRules t g rest) → g .n ≤ 8
-gate-few t g kept = by kept (gate-inputs t g kept)
-  where
-    by : {rest : List Rule} → NoneBroken (gateRules t g rest) → t .n ≤ 8 → g .n ≤ 8
-    by (also same more) few = omega (arith, eqb-true (g .n) (t .n) (not-false _ same), few)
+gate-few : (t : Table) (g : Gate) {rest : List Rule} → NoneBroken (otherInputs t g ∷ tableRules t rest) → g .n ≤ 8
+gate-few t g (also same more) = omega (arith, eqb-true (g .n) (t .n) (not-false _ same), kept-inputs t more)
+
+-- the table beside a refusal has no bit set, and keeps them too
+no-table-kept : NoneBroken (tableRules noTable [])
+unfolding spareSet strayValue allBelow allAtMost bitAt
+no-table-kept = table-keeps noTable (omega arith) refl refl refl
 
 -- r is what was read of the bytes s
 module _ (s : List ℕ) {r : Read} (says : r ≡ partsOf s) where
@@ -146,24 +144,32 @@ module _ (s : List ℕ) {r : Read} (says : r ≡ partsOf s) where
       of-family e = ap (λ (x : Answered A). andThen x later) (part-taken e)
 
   -- a record that was read keeps the rules of a writer
-  kept : AllBytes s → (x : Record) → readRecord s ≡ answered x → NoneBroken (recordRules x (tooShort (length s) (recordBytes x) ∷ []))
-  kept bytes x e =
-      answered-none-broken (recordRules x (tooShort (length s) (recordBytes x) ∷ [])) (recordBytes x) s
-      (write-back s bytes x e (length s) (omega arith)) .0
+  abbrev rules : Record → List Rule
+  rules x = recordRules x (tooShort (length s) (recordBytes x) ∷ [])
 
-  -- so a table keeps its format
-  pub table-kept-read : AllBytes s → r .kind ≡ Kind′.Table → NoneBroken (tableRules (r .table) [])
-  table-kept-read bytes e =
-      let x = is-table (readRecord s) (r .table) (sym (part-taken tables (λ (r : Read). r .table) e)) in
-      table-kept (r .table) (kept bytes (ofTable (r .table)) x)
+  kept : AllBytes s → (x : Record) → readRecord s ≡ answered x → NoneBroken (rules x)
+  kept bytes x e = answered-none-broken (rules x) (recordBytes x) s (write-back s bytes x e (length s) (omega arith)) .0
 
-  -- and a gate, or the table beside a witness, has at most eight inputs
+  table-of : AllBytes s → (x : Record) → readRecord s ≡ answered x → NoneBroken (tableRules (tableIn x) [])
+  table-of bytes x e = kept-table x (tooShort (length s) (recordBytes x) ∷ []) (kept bytes x e)
+
+  -- so the table of what was read keeps its own
+  pub read-kept : AllBytes s → NoneBroken (tableRules (r .table) [])
+  read-kept bytes = subst (λ (x : Read). NoneBroken (tableRules (x .table) [])) (sym says) (by (readRecord s) refl)
+    where
+      by : (a : Answered Record) → readRecord s ≡ a → NoneBroken (tableRules (asRead a .table) [])
+      by (answered (ofTable t)) e = table-of bytes (ofTable t) e
+      by (answered (ofGate t g)) e = table-of bytes (ofGate t g) e
+      by (answered (ofWitness t w)) e = table-of bytes (ofWitness t w) e
+      by (answered (ofJob j)) e = table-of bytes (ofJob j) e
+      by (refused n) e = no-table-kept
+
+  -- and has at most eight inputs
+  pub read-few : AllBytes s → r .table .n ≤ 8
+  read-few bytes = kept-inputs (r .table) (read-kept bytes)
+
+  -- so has a gate
   pub gate-few-read : AllBytes s → r .kind ≡ Kind′.Gate → r .gate .n ≤ 8
   gate-few-read bytes e =
       let x = is-gate (readRecord s) r (sym (part-taken gates (λ (r : Read). r) e)) in
       gate-few (r .table) (r .gate) (kept bytes (ofGate (r .table) (r .gate)) x)
-
-  pub witness-few-read : AllBytes s → r .kind ≡ Kind′.Witness → r .table .n ≤ 8
-  witness-few-read bytes e =
-      let x = is-witness (readRecord s) r (sym (part-taken witnesses (λ (r : Read). r) e)) in
-      kept-inputs (r .table) (kept bytes (ofWitness (r .table) (r .witness)) x)

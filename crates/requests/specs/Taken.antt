@@ -22,7 +22,7 @@ partsOf s = asRead (readRecord s)
 abbrev pub takenOf : {A : Type 0} → Family → (Read → A) → Read → Answered A
 takenOf f part r = saidOf (r .kind) (case f (answered (part r)) ∷ [])
 
--- the table of a record of kind 1
+-- the table of a record of kind 1 or 5
 abbrev pub tableRead : List ℕ → Answered Table
 tableRead s = takenOf tables (λ (r : Read). r .table) (partsOf s)
 
@@ -34,6 +34,6 @@ gateRead s = takenOf gates (λ (r : Read). r .gate) (partsOf s)
 abbrev pub countsRead : List ℕ → Answered (List ℕ)
 countsRead s = takenOf witnesses (λ (r : Read). countsOf (r .table) (r .witness)) (partsOf s)
 
--- the open job of a record of kind 4
+-- the open job of a record of kind 4 or 6
 abbrev pub jobRead : List ℕ → Answered Job
 jobRead s = takenOf jobs (λ (r : Read). r .job) (partsOf s)

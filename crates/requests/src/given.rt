@@ -8,8 +8,8 @@ ghost use lib.ListN.{length};
 ghost use Rattle.results.specs.Result.{Returned};
 ghost use Rattle.requests.specs.Requests.{gateRecord, witnessRecord};
 
-// Writes a kind 1 record's table with the gate of these numbers, kind 2. Returns the length. Refusals: 1 to 9 as the record is read, 100 for
-// another kind, 104, 7, 12.
+// Writes a table's record with the gate of these numbers, kind 2. Returns the length. Refusals: 1 to 9 and 16 as the record is read, 100 for
+// another kind than 1 and 5, 104, 16, 7, 12.
 pub fn gate_record(bytes: &[u8], weights: &[i32], threshold: i32, out: &mut [u8]) -> i64
     ensures { λ r. ⌜ Returned (gateRecord (now (bytes .entry)) (now (weights .entry)) threshold (length (now (out .entry)))) (now (out .entry)) r (now (out .exit)) ⌝ }
 {
@@ -21,8 +21,8 @@ pub fn gate_record(bytes: &[u8], weights: &[i32], threshold: i32, out: &mut [u8]
     from_gate(given.table, weights, threshold, out)
 }
 
-// Writes a kind 1 record's table with the witness of these counts, kind 3. Returns the length. Refusals: 1 to 9 as the record is read, 100
-// for another kind, 104, 8, 12.
+// Writes a table's record with the witness of these counts, kind 3. Returns the length. Refusals: 1 to 9 and 16 as the record is read, 100 for
+// another kind than 1 and 5, 104, 16, 8, 12.
 pub fn witness_record(bytes: &[u8], counts: &[u32], out: &mut [u8]) -> i64
     ensures { λ r. ⌜ Returned (witnessRecord (now (bytes .entry)) (now (counts .entry)) (length (now (out .entry)))) (now (out .entry)) r (now (out .exit)) ⌝ }
 {

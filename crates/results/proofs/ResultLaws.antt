@@ -14,8 +14,7 @@ use Rattle.cell.specs.declared.refusal.Answer.{Answer}
 use Rattle.cell.specs.Answers.{answer}
 use Rattle.writers.specs.declared.write.Written.the-variants as Written′
 use Rattle.writers.specs.declared.write.Written.{Written}
-use Rattle.records.specs.Record.{Record, recordBytes}
-use Rattle.bodies.proofs.RecordParts.{tableIn}
+use Rattle.records.specs.Record.{Record, tableIn, recordBytes}
 use Rattle.bodies.proofs.BodyLaws.{record-most}
 use Rattle.writers.specs.Calls.{tooShort, recordRules, writeRecord, fitted, written, WroteBytes}
 use Rattle.results.specs.Result.{asResult, said, measured, Returned, lengthBy, saidBy}

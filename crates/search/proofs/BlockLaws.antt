@@ -1,7 +1,7 @@
 -- Laws of blocks: the distance of a row is the sum of its place in the block and that of the block's higher inputs; and a table that fills
 -- its block by repeating its rows has the same lowest failing row. Assumes nothing.
 use mathlib.Core.Path.{_≡_, sym, _∙_, ap, ap₂}
-use mathlib.Core.Bool.{Bool, true, false}
+use mathlib.Core.Bool.{Bool, true, false, _&&_}
 use mathlib.Core.List.{List, [], _∷_}
 use mathlib.Core.Option.{some, none}
 use Prim.Native.Nat.{ℕ, zero, suc, _+_, _*_, _-_, _/_, _%_, _^_, _≤_, _<_}
@@ -15,10 +15,10 @@ use lib.Signed.{ltZ}
 use Rattle.numbers.specs.Sum.{weightedSum}
 use Rattle.numbers.proofs.Int.{integers, parts-add, parts-sub}
 use Rattle.numbers.proofs.SumLaws.{weighted-sum-nil, weighted-sum-cons, weighted-sum-ext, weighted-sum-add}
-use Rattle.numbers.proofs.TestLaws.{no-true}
+use Rattle.numbers.proofs.TestLaws.{no-true, and-left}
 use Rattle.numbers.proofs.FirstLaws.{IsFirst}
 use Rattle.types.specs.declared.table.Table.{Table}
-use Rattle.table.specs.Table.{rows, value, functionOf}
+use Rattle.table.specs.Table.{rows, value, cared, functionOf}
 use Rattle.function.specs.Function.{level}
 use Rattle.table.specs.Gate.{inRange}
 use Rattle.function.specs.Gate.{distance}
@@ -27,9 +27,10 @@ use Rattle.types.specs.declared.vector.Vector.{Vector}
 use Rattle.function.specs.Failing.{margin, fails, failing}
 use Rattle.function.proofs.RangeLaws.{in-range-correct, in-range-past}
 use Rattle.function.proofs.FailingLaws.{failing-at, none-failing}
-use Rattle.lanes.specs.Blocks.{blocksOf, laneRows, laneValue}
+use Rattle.lanes.specs.Blocks.{blocksOf, laneRows, laneValue, laneCared}
 use Rattle.lanes.specs.Sums.{vectorSums}
 use Rattle.lanes.proofs.SumsLaws.{sums-low, sums-high}
+use Rattle.search.specs.Keys.{goesTrue}
 
 -- ---- how many blocks there are
 
@@ -113,7 +114,7 @@ level-cut n r place h =
 module _ (t : Table) (v : Vector) where
   -- a row of the blocks fails
   unfoldable pub laneFails : ℕ → Bool
-  laneFails r = ltZ (margin (laneValue t r) (distance (v .a) (v .b) (level 2 r))) (pos 1)
+  laneFails r = laneCared t r && ltZ (margin (laneValue t r) (distance (v .a) (v .b) (level 2 r))) (pos 1)
 
   module _ (k : ℕ) (eight : length (v .a) ≡ 8) (range : inRange k (t .n) (v .a) (v .b) ≡ true) where
     -- a row has the distance of the row that it repeats
@@ -132,8 +133,8 @@ module _ (t : Table) (v : Vector) where
 
     -- so it fails where that row does
     lane-fails : (r : ℕ) → laneFails r ≡ fails (functionOf t) v (r % rows t)
-    unfolding laneFails fails laneValue
-    lane-fails r = ap (λ (d : ℤ). ltZ (margin (value t (r % rows t)) d) (pos 1)) (distance-cut r)
+    unfolding laneFails fails laneValue laneCared
+    lane-fails r = ap (λ (d : ℤ). cared t (r % rows t) && ltZ (margin (value t (r % rows t)) d) (pos 1)) (distance-cut r)
 
     row-fails : (r : ℕ) → r < rows t → laneFails r ≡ fails (functionOf t) v r
     row-fails r h = lane-fails r ∙ ap (fails (functionOf t) v) (mod-eq-of-lt h)
@@ -150,9 +151,9 @@ module _ (t : Table) (v : Vector) where
             let passes = first .before cut (omega arith) (omega arith) in
             absurd (no-true (sym passes ∙ row-fails cut small ∙ sym (lane-fails r) ∙ first .passes))
 
-    -- and the table's lowest
-    pub lane-failing : (m r : ℕ) → IsFirst laneFails m 0 r → (failing (functionOf t) v ≡ some r) × (laneValue t r ≡ value t r)
-    unfolding laneValue
+    -- and the table's lowest; it goes as what it is, since it is cared for
+    pub lane-failing : (m r : ℕ) → IsFirst laneFails m 0 r → (failing (functionOf t) v ≡ some r) × (goesTrue t r ≡ value t r)
+    unfolding laneFails laneValue
     lane-failing m r first =
         let inside = lane-first m r first in (
           failing-at (functionOf t) v r
@@ -162,7 +163,7 @@ module _ (t : Table) (v : Vector) where
                 passes = sym (row-fails r inside) ∙ first .passes;
                 before = λ q l h. sym (row-fails q (omega arith)) ∙ first .before q l h;
               },
-          ap (value t) (mod-eq-of-lt inside),
+          ap₂ _&&_ (and-left (laneCared t r) _ (first .passes)) (ap (value t) (mod-eq-of-lt inside)),
         )
 
     -- where no row of the blocks fails, no row of the table does

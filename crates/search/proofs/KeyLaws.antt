@@ -1,7 +1,7 @@
 -- Laws of keys: the bits of a key that a difference's sign turns, the least of some keys, and that the least key of a block is that of its
 -- lowest failing row. Assumes nothing.
 use mathlib.Core.Path.{_≡_, refl, sym, _∙_, ap}
-use mathlib.Core.Bool.{Bool, true, false, cond}
+use mathlib.Core.Bool.{Bool, true, false, not, cond, _&&_}
 use mathlib.Core.List.{List}
 use mathlib.Core.Option.{Option, some, none}
 use Prim.Native.Nat.{ℕ, zero, suc, _+_, _*_, _-_, _^_, _≤_, _<_}
@@ -16,18 +16,19 @@ use borrow.Author.Tests.{le-ltb}
 use mir.Syntax.{w16}
 use mir.Val.{toZ, ofZ, SFits}
 use mir.Facts.{toZ-ofZ, toZ-pos, toZ-neg}
+use Rattle.numbers.specs.Packed.{bitOf}
 use Rattle.numbers.specs.Tests.{firstFrom}
-use Rattle.numbers.proofs.Int.{integers, parts-neg, parts-add, parts-sub, ≤ℤ-trans, pos-nonneg}
+use Rattle.numbers.proofs.Int.{integers, natAbs-parts, parts-neg, parts-add, parts-sub, ≤ℤ-trans, pos-nonneg}
 use Rattle.numbers.proofs.TestLaws.{no-true, not-passed}
 use Rattle.numbers.proofs.FirstLaws.{IsFirst, first-some, first-none}
 use Rattle.types.specs.declared.table.Table.{Table}
 use Rattle.function.specs.Failing.{margin}
 use Rattle.numbers.specs.Tabulate.{Holds}
 use Rattle.machine.proofs.ScanLaws.{holds-more}
-use Rattle.lanes.specs.Blocks.{blocksOf, laneValue}
+use Rattle.lanes.specs.Blocks.{blocksOf, laneValue, laneCared}
 use Rattle.lanes.specs.Codes.{rowCode}
 use Rattle.search.proofs.BlockLaws.{blocks-le}
-use Rattle.search.specs.Keys.{oneOf, keyOf, flipped, flippedBy, leastBelow}
+use Rattle.search.specs.Keys.{oneOf, keyOf, goesTrue, flipped, flippedBy, leastBelow}
 
 -- ---- bits
 
@@ -110,28 +111,39 @@ least-ge (suc m) f x top h =
 
 -- ---- the lists that a row's key is made from
 
--- what is taken from the distance of a row of this value, and the key of such a row
-abbrev pub oneBy : Bool → ℤ
-oneBy y = cond y (pos 1) (pos 0)
+-- what is taken from the distance of a row, by whether it is cared for and its value
+abbrev pub oneBy : (c y : Bool) → ℤ
+oneBy c y = cond c (cond y (pos 1) (pos 0)) (pos 16384)
 
+-- the key of a row, by whether it goes as a true one
 abbrev pub keyBy : Bool → ℕ → ℤ
 keyBy y r = cond y (pos (2 * r + 1)) (pos (2 * r) -ℤ pos 32768)
 
-pub one-by : {y : Bool} (t : Table) (r : ℕ) → y ≡ laneValue t r → oneBy y ≡ oneOf t r
-unfolding oneOf
-one-by t r e = ap oneBy e
+-- what code makes of two bits: 1 for a row that goes as a true one, and 16,384 for one that is not cared for
+abbrev pub oneFrom : (free goes : Bool) → ℤ
+oneFrom free goes = pos (bitOf goes + bitOf free * 16384)
 
-pub key-by : {y : Bool} (t : Table) (r : ℕ) → y ≡ laneValue t r → keyBy y r ≡ keyOf t r
+pub one-from : {free goes : Bool} (t : Table) (r : ℕ) → free ≡ not (laneCared t r) → goes ≡ goesTrue t r → oneFrom free goes ≡ oneOf t r
+unfolding oneOf
+one-from t r e k = rw (e, k) (by (laneCared t r) (laneValue t r))
+  where
+    by : (c y : Bool) → oneFrom (not c) (c && y) ≡ oneBy c y
+    by true true = refl
+    by true false = refl
+    by false y = refl
+
+pub key-by : {y : Bool} (t : Table) (r : ℕ) → y ≡ goesTrue t r → keyBy y r ≡ keyOf t r
 unfolding keyOf
 key-by t r e = ap (λ (y : Bool). keyBy y r) e
 
-pub one-size : (t : Table) (r : ℕ) → natAbs (oneOf t r) ≤ 1
+pub one-size : (t : Table) (r : ℕ) → natAbs (oneOf t r) ≤ 16384
 unfolding oneOf
-one-size t r = by (laneValue t r)
+one-size t r = by (laneCared t r) (laneValue t r)
   where
-    by : (y : Bool) → natAbs (oneBy y) ≤ 1
-    by true = omega arith
-    by false = omega arith
+    by : (c y : Bool) → natAbs (oneBy c y) ≤ 16384
+    by true true = omega arith
+    by true false = omega arith
+    by false y = omega arith
 
 -- a loop over some rows of 256 has stored the values of f below `row`
 pub record Stored (f : ℕ → ℤ) (rows row : ℕ) (list : List ℤ) : Type 0 where
@@ -182,15 +194,24 @@ key-false d m false h e =
     let low : ltZ (pos m -ℤ pos 32768) (pos 0) ≡ true = omega (integers, parts-sub (pos m) (pos 32768)) in
     rw (negative, low) (omega (integers, parts-sub (pos m) (pos 32768), parts-add (pos m -ℤ pos 32768) (pos 32768)))
 
+-- the difference of a row that is not cared for is negative, so it does not fail
+key-free : (d : ℤ) (m : ℕ) → natAbs d ≤ 16000 → m < 32768 → flippedBy (d -ℤ pos 16384) (pos m -ℤ pos 32768) ≡ pos m
+unfolding flippedBy flipped
+key-free d m narrow h =
+    let negative : ltZ (d -ℤ pos 16384) (pos 0) ≡ true = omega (integers, parts-sub d (pos 16384), natAbs-parts d) in
+    let low : ltZ (pos m -ℤ pos 32768) (pos 0) ≡ true = omega (integers, parts-sub (pos m) (pos 32768)) in
+    rw (negative, low) (omega (integers, parts-sub (pos m) (pos 32768), parts-add (pos m -ℤ pos 32768) (pos 32768)))
+
 -- so the flipped key of a row is its code, and 32,768 less where it fails
-pub row-key : (t : Table) (r : ℕ) (d : ℤ) → r < 256
-    → flippedBy (d -ℤ oneOf t r) (keyOf t r) ≡ keyed (ltZ (margin (laneValue t r) d) (pos 1)) (rowCode (laneValue t r) r)
+pub row-key : (t : Table) (r : ℕ) (d : ℤ) → r < 256 → natAbs d ≤ 16000
+    → flippedBy (d -ℤ oneOf t r) (keyOf t r) ≡ keyed (laneCared t r && ltZ (margin (laneValue t r) d) (pos 1)) (rowCode (goesTrue t r) r)
 unfolding oneOf keyOf
-row-key t r d h = by (laneValue t r)
+row-key t r d h narrow = by (laneCared t r) (laneValue t r)
   where
-    by : (y : Bool) → flippedBy (d -ℤ oneBy y) (keyBy y r) ≡ keyed (ltZ (margin y d) (pos 1)) (rowCode y r)
-    by true = key-true d (2 * r + 1) (ltZ d (pos 1)) refl
-    by false = key-false d (2 * r) (ltZ (negℤ d) (pos 1)) (omega arith) refl ∙ ap (keyed (ltZ (negℤ d) (pos 1))) (omega arith)
+    by : (c y : Bool) → flippedBy (d -ℤ oneBy c y) (keyBy (c && y) r) ≡ keyed (c && ltZ (margin y d) (pos 1)) (rowCode (c && y) r)
+    by true true = key-true d (2 * r + 1) (ltZ d (pos 1)) refl
+    by true false = key-false d (2 * r) (ltZ (negℤ d) (pos 1)) (omega arith) refl ∙ ap (keyed (ltZ (negℤ d) (pos 1))) (omega arith)
+    by false y = key-free d (2 * r) narrow (omega arith) ∙ ap pos (omega arith)
 
 -- the code that a failing row's key stands for
 pub flipped-back : (key : ℤ) (code made : ℕ) → key ≡ pos code -ℤ pos 32768 → pos made ≡ key +ℤ pos 32768 → made ≡ code

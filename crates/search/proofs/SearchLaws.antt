@@ -10,6 +10,7 @@ use lib.ListN.{length, getD, take, drop, length-take, length-drop}
 use lib.Seq.{getD-take, getD-drop}
 use lib.IntN.{ℤ, pos, natAbs, _+ℤ_, _-ℤ_}
 use lib.Signed.{ltZ}
+use Rattle.numbers.proofs.Int.{natAbs-parts, size-add}
 use Rattle.numbers.proofs.FirstLaws.{IsFirst}
 use Rattle.types.specs.declared.table.Table.{Table}
 use Rattle.table.specs.Gate.{inRange}
@@ -17,10 +18,10 @@ use Rattle.function.specs.Gate.{distance}
 use Rattle.types.specs.declared.vector.Vector.{Vector}
 use Rattle.function.specs.Failing.{failing}
 use Rattle.numbers.specs.Tabulate.{Holds}
-use Rattle.lanes.specs.Blocks.{blocksOf, laneRows, laneValue}
+use Rattle.lanes.specs.Blocks.{blocksOf, laneRows}
 use Rattle.lanes.specs.Sums.{vectorSums, Narrow}
 use Rattle.lanes.specs.Codes.{rowCode, foundCode}
-use Rattle.search.specs.Keys.{oneOf, keyOf, leastBelow, blockKey}
+use Rattle.search.specs.Keys.{oneOf, keyOf, goesTrue, leastBelow, blockKey}
 use Rattle.search.proofs.KeyLaws.{keyed, one-size, flipped-back, row-key, least-passes, least-fails}
 use Rattle.search.proofs.BlockLaws.{blocks-le, sums-distance, laneFails, lane-failing, lanes-pass}
 use Rattle.table.specs.Table.{functionOf}
@@ -48,17 +49,21 @@ part-holds f m h l within holds q k =
     ∙ holds (32 * h + q) (omega arith)
 
 -- the sums of a block have room for what is taken from them
-pub block-room : (t : Table) (sums ones : List ℤ) (h : ℕ) → Narrow 32000 sums → h < 8 → HoldsBlock (oneOf t) h ones
+pub block-room : (t : Table) (sums ones : List ℤ) (h : ℕ) → Narrow 16000 sums → h < 8 → HoldsBlock (oneOf t) h ones
     → (q : ℕ)
     → q < 32
     → natAbs (getD sums q (pos 0)) + natAbs (getD sums (32 + h) (pos 0)) + natAbs (getD ones q (pos 0)) < 32768
 block-room t sums ones h narrow within holds q l = rw (holds q l) (omega (arith, narrow q h l within, one-size t (32 * h + q)))
 
+-- a distance is at most the sizes of its two sums
+distance-small : {d : ℤ} (a b : ℤ) (limit : ℕ) → natAbs a + natAbs b ≤ limit → a +ℤ b ≡ d → natAbs d ≤ limit
+distance-small a b limit h e = rw (← e) (omega (arith, size-add a b, natAbs-parts a, natAbs-parts b, natAbs-parts (a +ℤ b)))
+
 -- ---- the least key of a block
 
 -- the code of row q of block h
 abbrev blockCode : Table → ℕ → ℕ → ℕ
-blockCode t h q = rowCode (laneValue t (32 * h + q)) (32 * h + q)
+blockCode t h q = rowCode (goesTrue t (32 * h + q)) (32 * h + q)
 
 code-bounds : (y : Bool) (r : ℕ) → (2 * r ≤ rowCode y r) × (rowCode y r ≤ 2 * r + 1)
 code-bounds true r = (omega arith, omega arith)
@@ -71,7 +76,7 @@ code-rising t h p q l k = by (decLe q p)
     by : Dec (q ≤ p) → blockCode t h p ≤ blockCode t h q
     by (yes same) = let e : p ≡ q = omega arith in rw e (omega arith)
     by (no below) =
-        omega (arith, below, code-bounds (laneValue t (32 * h + p)) (32 * h + p), code-bounds (laneValue t (32 * h + q)) (32 * h + q))
+        omega (arith, below, code-bounds (goesTrue t (32 * h + p)) (32 * h + p), code-bounds (goesTrue t (32 * h + q)) (32 * h + q))
 
 -- no row below block h fails, by any vector of the sums
 abbrev pub Passed : Table → List ℤ → ℕ → Type 0
@@ -96,6 +101,7 @@ NoneNegative sums ones keys m = (h : ℕ) → h < m → ltZ (leastAt sums ones k
 module _ (t : Table) (sums ones keys : List ℤ) (few : t .n ≤ 8)
     (hold-ones : Holds (oneOf t) (laneRows (t .n)) ones)
     (hold-keys : Holds (keyOf t) (laneRows (t .n)) keys)
+    (narrow : Narrow 16000 sums)
   where
     module _ (h : ℕ) (inside : h < blocksOf (t .n)) (passed : Passed t sums h) where
       module _ (v : Vector) (is : sums ≡ vectorSums v) where
@@ -113,10 +119,11 @@ module _ (t : Table) (sums ones keys : List ℤ) (few : t .n ≤ 8)
             let split = ap (λ (l : List ℤ). getD l q (pos 0) +ℤ getD l (32 + h) (pos 0)) is ∙ sums-distance v q h l within in
             let one = part-holds (oneOf t) (blocksOf (t .n)) h ones inside hold-ones q l in
             let key = part-holds (keyOf t) (blocksOf (t .n)) h keys inside hold-keys q l in
-            rw (split, one, key) (row-key t (32 * h + q) (distance (v .a) (v .b) (level 2 (32 * h + q))) (omega arith))
+            let small = distance-small (getD sums q (pos 0)) (getD sums (32 + h) (pos 0)) 16000 (narrow q h l within) split in
+            rw (split, one, key) (row-key t (32 * h + q) (distance (v .a) (v .b) (level 2 (32 * h + q))) (omega arith) small)
 
         code-small : (q : ℕ) → q < 32 → blockCode t h q < 32768
-        code-small q l = omega (arith, inside, blocks-le (t .n) few, code-bounds (laneValue t (32 * h + q)) (32 * h + q))
+        code-small q l = omega (arith, inside, blocks-le (t .n) few, code-bounds (goesTrue t (32 * h + q)) (32 * h + q))
 
         -- what holds below the block, and of each row in it up to m
         up-to : (m : ℕ) → ((q : ℕ) → q < m → failsIn q ≡ false) → (r : ℕ) → r < 32 * h + m → laneFails t v r ≡ false

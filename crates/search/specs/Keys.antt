@@ -1,21 +1,26 @@
 -- The keys of rows, which are ordered as the rows are, and how the search compares them: the sign of a row's difference turns its key, and
 -- the least key of a block counts. For the inside of the machine alone. Definitions only. Assumes nothing.
-use mathlib.Core.Bool.{cond}
+use mathlib.Core.Bool.{Bool, cond, _&&_}
 use mathlib.Core.List.{List}
 use Prim.Native.Nat.{ℕ, zero, suc, _+_, _*_}
 use lib.ListN.{getD}
 use lib.IntN.{ℤ, pos, _+ℤ_, _-ℤ_}
 use lib.Signed.{ltZ}
 use Rattle.types.specs.declared.table.Table.{Table}
-use Rattle.lanes.specs.Blocks.{laneValue}
+use Rattle.lanes.specs.Blocks.{laneValue, laneCared}
 
--- what is taken from a row's distance, so that a true row fails where the difference is negative and a false row where it is not
+-- what is taken from a row's distance, so that a true row fails where the difference is negative and a false row where it is not. A row that is
+-- not cared for goes as a false row whose difference is always negative: distances are within 16,000
 unfoldable pub oneOf : Table → ℕ → ℤ
-oneOf t r = cond (laneValue t r) (pos 1) (pos 0)
+oneOf t r = cond (laneCared t r) (cond (laneValue t r) (pos 1) (pos 0)) (pos 16384)
 
--- the key of a row that does not fail where its difference is not negative: its code, and for a false row 32,768 less
+-- whether a row goes as a true one
+abbrev pub goesTrue : Table → ℕ → Bool
+goesTrue t r = laneCared t r && laneValue t r
+
+-- the key of a row that does not fail where its difference is not negative: its code, and for a row that goes as a false one 32,768 less
 unfoldable pub keyOf : Table → ℕ → ℤ
-keyOf t r = cond (laneValue t r) (pos (2 * r + 1)) (pos (2 * r) -ℤ pos 32768)
+keyOf t r = cond (goesTrue t r) (pos (2 * r + 1)) (pos (2 * r) -ℤ pos 32768)
 
 -- a number of 16 bits with its sign bit flipped
 unfoldable pub flipped : ℤ → ℤ

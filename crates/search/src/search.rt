@@ -44,7 +44,7 @@ fn code_of(key: i16) -> usize
 // Returns the code of the lowest failing row, or 512. The first block has no higher input.
 pub fn lowest(sums: &[i16; 40], ones: &[i16; 256], keys: &[i16; 256], table: Table) -> usize
     requires { ⌜ (table .n ≤ 8) × Holds (oneOf table) (laneRows (table .n)) (now ones) × Holds (keyOf table) (laneRows (table .n)) (now keys) ⌝ }
-    requires { ⌜ Narrow 32000 (now sums) × (getD (now sums) 32 (pos 0) ≡ pos 0) ⌝ }
+    requires { ⌜ Narrow 16000 (now sums) × (getD (now sums) 32 (pos 0) ≡ pos 0) ⌝ }
     ensures { λ r. ⌜ ((k : ℕ) (v : Vector) → length (v .a) ≡ 8 → inRange k (table .n) (v .a) (v .b) ≡ true → now (sums .entry) ≡ vectorSums v → r ≡ foundCode table (failing (functionOf table) v)) ⌝ }
 {
     let all_ones = &ones[..];

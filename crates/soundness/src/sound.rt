@@ -2,12 +2,14 @@
 use machine::core::Core;
 use machine::power::top_power;
 use machine::scan::first_failing;
+use machine::scan::row_cares;
 use machine::scan::row_values;
 use machine::vector::same_vector;
 use machine::vector::vector_within;
 use table::inputs::Lowest;
 use table::inputs::is_found;
 use table::table::row_count;
+use table::witness::counts_cared;
 use table::witness::counts_within;
 use table::witness::same_counts;
 use trace::traced::is_traced;
@@ -25,6 +27,7 @@ ghost use Rattle.numbers.specs.Tests.{allAtMost, isSome};
 ghost use Rattle.table.specs.Table.{rows, functionOf};
 ghost use Rattle.table.specs.Gate.{inRange};
 ghost use Rattle.table.specs.Witness.{CountArray};
+ghost use Rattle.function.specs.Witness.{countOf, countsCared};
 ghost use Rattle.function.specs.Vector.{sameVector, zeroVector};
 ghost use Rattle.function.specs.Failing.{failing};
 ghost use Rattle.function.specs.Binate.{binatePlace};
@@ -39,9 +42,10 @@ fn some_fails(table: Table, core: Core) -> bool
     requires { ⌜ (table .n ≤ 8) × (core .k ≤ cap) × (inRange (core .k) (table .n) (core .v .a) (core .v .b) ≡ true) ⌝ }
     ensures { λ r. ⌜ r ≡ isSome (failing (functionOf table) (core .v)) ⌝ }
 {
+    let cares = row_cares(table);
     let values = row_values(table);
     let mut distances = [0i32; 256];
-    is_found(first_failing(&mut distances, &values, table, core.v))
+    is_found(first_failing(&mut distances, &cares, &values, table, core.v))
 }
 
 // Whether some row fails, and v differs from s unless all counts are 0.
@@ -135,12 +139,23 @@ fn sound_in(table: Table, core: Core, counts: &[u32; 256]) -> bool
     }
 }
 
-// Whether K is at most the cap, v and s are within ±K, and the counts past the table are 0.
+// Whether the counts of rows that are not cared for, and those past the table, are 0.
+fn keeps_rows(table: Table, counts: &[u32; 256]) -> bool
+    requires { ⌜ (table .n ≤ 8) × (length (now counts) ≡ 256) ⌝ }
+    ensures { λ r. ⌜ r ≡ (countsCared (functionOf table) (countOf (now (counts .entry))) && allAtMost 0 (drop (rows table) (now (counts .entry)))) ⌝ }
+{
+    let spared = counts_cared(table, counts);
+    let inside = counts_within(counts, row_count(table.n), 0);
+    spared && inside
+}
+
+// Whether K is at most the cap, v and s are within ±K, and the counts of rows that are not cared for and of those past the table are 0.
 fn keeps_limits(table: Table, core: Core, counts: &[u32; 256]) -> bool
     requires { ⌜ (table .n ≤ 8) × (length (now counts) ≡ 256) ⌝ }
     ensures { λ r. ⌜ r ≡ (leb (core .k) cap
         && inRange (core .k) (table .n) (core .v .a) (core .v .b)
         && inRange (core .k) (table .n) (core .s .a) (core .s .b)
+        && countsCared (functionOf table) (countOf (now (counts .entry)))
         && allAtMost 0 (drop (rows table) (now (counts .entry)))) ⌝ }
 {
     let n = table.n;
@@ -154,7 +169,7 @@ fn keeps_limits(table: Table, core: Core, counts: &[u32; 256]) -> bool
     if !vector_within(core.s, n, k) {
         return false;
     }
-    counts_within(counts, row_count(n), 0)
+    keeps_rows(table, counts)
 }
 
 // Whether a state, taken apart, is sound.

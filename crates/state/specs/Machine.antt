@@ -21,8 +21,8 @@ use Rattle.numbers.specs.Power.{highest}
 abbrev pub startState : List ℕ → Stage → State
 startState counts stage = record { k = 0; v = zeroVector; mark = 0; s = zeroVector; counts = counts; stage = stage }
 
--- where no input is binate: open, or found where no row fails. Every row that is cared for fails at v = 0, so a table's is open
--- (claimed: `TablesAsWritten`)
+-- where no input is binate: open, or found where no row fails. Every row that is cared for fails at v = 0, so a table with such a row is open
+-- (claimed: `TablesAsWritten`), and one without is found, with K 0 (document 02, §3)
 abbrev pub startStage : Option ℕ → Stage
 startStage (some r) = Open
 startStage none = Found

@@ -7,6 +7,7 @@ use machine::core::core_of;
 use machine::core::state_of;
 use machine::power::top_power;
 use machine::scan::first_failing;
+use machine::scan::row_cares;
 use machine::scan::row_values;
 use machine::vector::corrected_by;
 use machine::vector::same_vector;
@@ -60,10 +61,11 @@ fn plain_steps(table: Table, state: State, budget: u32) -> State
     requires { ⌜ (table .n ≤ 8) × Sound (functionOf table) state × (state .stage ≡ Stage.Open) × (state .k + budget ≤ cap) ⌝ }
     ensures { λ r. ⌜ r ≡ run (functionOf table) budget state ⌝ }
 {
+    let cares = row_cares(table);
     let values = row_values(table);
     let mut distances = [0i32; 256];
     let mut j = state;
-    let mut next = first_failing(&mut distances, &values, table, j.v);
+    let mut next = first_failing(&mut distances, &cares, &values, table, j.v);
     let mut made: u32 = 0;
     while made < budget {
         let Lowest::At(row) = next else {
@@ -81,7 +83,7 @@ fn plain_steps(table: Table, state: State, budget: u32) -> State
             j.s = v;
             j.counts = [0u32; 256];
         }
-        next = first_failing(&mut distances, &values, table, j.v);
+        next = first_failing(&mut distances, &cares, &values, table, j.v);
         made = made + 1;
     }
     if let Lowest::At(_) = next {
@@ -100,7 +102,7 @@ struct Way {
 // Whether steps are left to make, and the fast form can make them: the state is open, and the numbers of v and s are small.
 fn is_fast(core: Core, left: u32) -> bool
     requires { ⌜ (inRange weightLimit 8 (core .v .a) (core .v .b) ≡ true) × (inRange weightLimit 8 (core .s .a) (core .s .b) ≡ true) ⌝ }
-    ensures { λ r. ⌜ (r ≡ true → (0 < left) × (core .stage ≡ Stage.Open) × (magnitude (core .v) ≤ 14000) × (magnitude (core .s) ≤ 14000)) ⌝ }
+    ensures { λ r. ⌜ (r ≡ true → (0 < left) × (core .stage ≡ Stage.Open) × (magnitude (core .v) ≤ 9000) × (magnitude (core .s) ≤ 9000)) ⌝ }
 {
     if left == 0 {
         return false;

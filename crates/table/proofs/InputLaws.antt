@@ -1,6 +1,6 @@
 -- Laws of inputs: the rows in which an input turns the value, and its kind. Assumes nothing.
 use mathlib.Core.Path.{_≡_, refl, sym, _∙_, ap}
-use mathlib.Core.Bool.{Bool, true, false, not, Bool·beq, _&&_}
+use mathlib.Core.Bool.{Bool, true, false, not, Bool·beq, _&&_, and-true, and-false}
 use mathlib.Core.Option.{Option, some, none}
 use Prim.Native.Nat.{ℕ, _+_, _^_, _≤_, _<_}
 use native.Mathlib.Omega.{arith}
@@ -10,7 +10,8 @@ use Rattle.numbers.specs.Tests.{sameBool, isSome}
 use Rattle.numbers.proofs.TestLaws.{same-bool-beq}
 use Rattle.types.specs.declared.table.Table.{Table}
 use Rattle.types.specs.declared.inputs.InputKind.the-variants.{Idle}
-use Rattle.table.specs.Table.{value, functionOf}
+use Rattle.table.specs.Table.{value, cared, functionOf}
+use Rattle.table.proofs.OnTables.{table-turns}
 use Rattle.function.specs.Function.{level}
 use Rattle.table.specs.Inputs.{lowestOf, isFound, kindBy, inputKindAt}
 use Rattle.function.specs.Turns.{turnsAt, firstTurn}
@@ -24,18 +25,28 @@ same-bool-read {v} side e k = ap (λ (x : Bool). sameBool x side) (sym e) ∙ sy
 module _ (t : Table) (to : Bool) (place : ℕ) where
   -- a row with the input does not turn
   pub turns-at-has : (r : ℕ) → level 2 r place ≡ 1 → turnsAt (functionOf t) to place r ≡ false
-  unfolding turnsAt
-  turns-at-has r h = rw h
-
-  -- a row without it turns where its own value is not `to` and its partner's is
-  pub turns-at-lacks : (r : ℕ) → level 2 r place ≡ 0 → turnsAt (functionOf t) to place r ≡ (not (sameBool (value t r) to) && sameBool (value t (r + 2 ^ place)) to)
-  unfolding turnsAt
-  turns-at-lacks r h = rw h (ap (λ (v : Bool). v && sameBool (value t (r + 2 ^ place)) to) (by (value t r) to))
+  turns-at-has r h = table-turns t to place r ∙ rw h (none (cared t r) (cared t (r + 2 ^ place)))
     where
-      by : (a b : Bool) → sameBool a (not b) ≡ not (sameBool a b)
-      by true b = refl
-      by false true = refl
-      by false false = refl
+      none : (a b : Bool) → (a && (b && false)) ≡ false
+      none true true = refl
+      none true false = refl
+      none false b = refl
+
+  -- a row without it turns where its own value is not `to` and its partner's is, and both are cared for
+  pub turns-at-lacks : (r : ℕ) → level 2 r place ≡ 0
+      → turnsAt (functionOf t) to place r
+      ≡ (not (sameBool (value t r) to) && (sameBool (value t (r + 2 ^ place)) to && (cared t r && cared t (r + 2 ^ place))))
+  turns-at-lacks r h =
+      table-turns t to place r
+      ∙ rw h (by (cared t r) (cared t (r + 2 ^ place)) (value t r) to (sameBool (value t (r + 2 ^ place)) to))
+    where
+      by : (a b v to p : Bool) → (a && (b && (sameBool v (not to) && p))) ≡ (not (sameBool v to) && (p && (a && b)))
+      by true true true true p = refl
+      by true true true false p = sym (and-true p)
+      by true true false true p = sym (and-true p)
+      by true true false false p = refl
+      by true false v to p = sym (ap (λ (x : Bool). not (sameBool v to) && x) (and-false p) ∙ and-false (not (sameBool v to)))
+      by false b v to p = sym (ap (λ (x : Bool). not (sameBool v to) && x) (and-false p) ∙ and-false (not (sameBool v to)))
 
 -- ---- kinds
 

@@ -1,9 +1,9 @@
 -- What the definitions over a function say of a table's, in the words of document 01: when weights realise it and when counts balance ("Table,
--- gate, witness"), when an input turns its value, when a row fails and what it corrects ("The stepping machine"). Every row is cared for, and a
--- level is 0, or 1 where the input is true. Assumes nothing.
+-- gate, witness"), when an input turns its value, when a row fails and what it corrects ("The stepping machine"). A level is 0, or 1 where the
+-- input is true. Assumes nothing.
 use mathlib.Core.Path.{_≡_, refl, sym, _∙_, ap}
 use mathlib.Core.Logic.{_↔_}
-use mathlib.Core.Bool.{Bool, true, false, not, cond, _&&_}
+use mathlib.Core.Bool.{Bool, true, false, not, cond, _&&_, _||_, and-true}
 use mathlib.Core.List.{List}
 use mathlib.Core.Option.{some}
 use Prim.Native.Nat.{ℕ, zero, suc, _+_, _*_, _^_, _≤_, _<_}
@@ -16,10 +16,11 @@ use lib.IntN.{ℤ, pos, negsuc, _+ℤ_, _*ℤ_, +ℤ-idr, zero-*ℤ}
 use lib.Pow.{pow-pos}
 use lib.Signed.{ltZ}
 use Rattle.numbers.specs.Sum.{sumBelow, weightedSum}
-use Rattle.numbers.specs.Tests.{sameBool, allBelow}
+use Rattle.numbers.specs.Tests.{sameBool, allBelow, firstFrom}
 use Rattle.numbers.proofs.TestLaws.{no-true, all-below-from}
 use Rattle.numbers.proofs.Ring.{*ℤ-idl}
 use Rattle.numbers.proofs.SumLaws.{sum-below-ext}
+use Rattle.numbers.proofs.FirstLaws.{first-cong}
 use Rattle.types.specs.declared.table.Table.{Table}
 use Rattle.types.specs.declared.vector.Vector.{Vector}
 use Rattle.function.specs.Function.{level}
@@ -31,7 +32,7 @@ use Rattle.function.specs.Vector.{sign, correctedBy, zeroVector}
 use Rattle.function.proofs.FailingLaws.{above-below, failing-at}
 use Rattle.function.proofs.VectorLaws.{corrected-weights, getD-add-levels}
 use Rattle.function.proofs.WitnessLaws.{sideTerm, side-sum-terms}
-use Rattle.table.specs.Table.{rows, value, functionOf}
+use Rattle.table.specs.Table.{rows, value, cared, functionOf}
 use Rattle.table.proofs.TableLaws.{level-lt}
 
 -- a level of a table is below the top exactly if it is 0
@@ -58,34 +59,21 @@ margin-below true d = refl
 margin-below false d = sym (above-below d)
 
 module _ (t : Table) where
-  -- weights and T realise a table if they agree with it on every row
-  pub table-realises : (ws : List ℤ) (th : ℤ) → Realises ws th (functionOf t) ↔ ((r : ℕ) → r < rows t → gateTrue ws th (level 2 r) ≡ value t r)
-  table-realises ws th = (λ g r h. g r h refl, λ g r h care. g r h)
-
-  -- counts balance if true rows and false rows have the same total above 0, and the same total for each input
-  pub table-balances : (count : ℕ → ℕ) → sideSum (functionOf t) true count 0 ≡ sideSum (functionOf t) false count 0
-      → 0 < sideSum (functionOf t) true count 0
-      → ((i : ℕ) → 1 ≤ i → i ≤ t .n → sideSum (functionOf t) true count i ≡ sideSum (functionOf t) false count i)
-      → Balances (functionOf t) count
-  table-balances count total above inputs = record { total = total; above = above; inputs = inputs; cared = λ r h e. absurd (no-true (sym e)) }
-
-  -- the test that weights and T realise a table asks of every row whether they agree
+  -- the test that weights and T realise a table asks of every row whether they agree, or it is not cared for
   pub table-realises-test : (ws : List ℤ) (th : ℤ)
-      → realises ws th (functionOf t) ≡ allBelow (rows t) (λ r. sameBool (gateTrue ws th (level 2 r)) (value t r))
+      → realises ws th (functionOf t) ≡ allBelow (rows t) (λ r. not (cared t r) || sameBool (gateTrue ws th (level 2 r)) (value t r))
   unfolding realises
   table-realises-test ws th = refl
 
-  -- every row of a table is cared for, whatever its count
-  pub table-counts-cared : (count : ℕ → ℕ) → countsCared (functionOf t) count ≡ true
-  unfolding countsCared
-  table-counts-cared count = all-below-from (rows t) (λ r. true) (λ r h. refl)
-
-  -- row r lacks the place's input, and making it true turns the table's value to `to`
+  -- row r lacks the place's input, making it true turns the table's value to `to`, and both rows are cared for
   pub table-turns : (to : Bool) (place r : ℕ)
-      → turnsAt (functionOf t) to place r ≡ (eqb (level 2 r place) 0 && sameBool (value t r) (not to) && sameBool (value t (r + 2 ^ place)) to)
+      → turnsAt (functionOf t) to place r
+      ≡ (cared t r && (cared t (r + 2 ^ place) && (eqb (level 2 r place) 0 && sameBool (value t r) (not to) && sameBool (value t (r + 2 ^ place)) to)))
   unfolding turnsAt
   table-turns to place r =
-      ap (λ (b : Bool). b && sameBool (value t r) (not to) && sameBool (value t (r + 2 ^ place)) to) (lacks-below (level 2 r place))
+      ap
+      (λ (b : Bool). cared t r && (cared t (r + 2 ^ place) && (b && sameBool (value t r) (not to) && sameBool (value t (r + 2 ^ place)) to)))
+      (lacks-below (level 2 r place))
 
   -- the total of a side is the counts of its rows
   pub table-total : (side : Bool) (count : ℕ → ℕ)
@@ -105,12 +93,12 @@ module _ (t : Table) where
       (λ r. onlyIf (sameBool (value t r) side && eqb (level 2 r place) 1) (count r))
       (λ r h. level-counts (sameBool (value t r) side) (count r) (level 2 r place) (level-lt r place))
 
-  -- row r fails: d below 1 on a true row, above −1 on a false row
+  -- row r fails: it is cared for, and d is below 1 on a true row, above −1 on a false row
   pub table-fails : (v : Vector) (r : ℕ)
       → fails (functionOf t) v r
-      ≡ (let d = distance (v .a) (v .b) (level 2 r) in cond (value t r) (ltZ d (pos 1)) (ltZ (negsuc 0) d))
+      ≡ (let d = distance (v .a) (v .b) (level 2 r) in cared t r && cond (value t r) (ltZ d (pos 1)) (ltZ (negsuc 0) d))
   unfolding fails
-  table-fails v r = margin-below (value t r) (distance (v .a) (v .b) (level 2 r))
+  table-fails v r = ap (λ (b : Bool). cared t r && b) (margin-below (value t r) (distance (v .a) (v .b) (level 2 r)))
 
   -- a correction adds 1 on a true row, and −1 on a false row, to the a of the true inputs
   pub table-corrected-a : (v : Vector) (r place : ℕ) → place < length (v .a)
@@ -123,20 +111,22 @@ module _ (t : Table) where
 
 -- ---- the vector 0
 
--- row 0 fails at the vector 0
-zero-fails : (t : Table) → fails (functionOf t) zeroVector 0 ≡ true
+-- a row fails at the vector 0 exactly if it is cared for
+zero-fails : (t : Table) (r : ℕ) → fails (functionOf t) zeroVector r ≡ cared t r
 unfolding fails distance weightedSum
-zero-fails t = by (value t 0)
+zero-fails t r = ap (λ (b : Bool). cared t r && b) (by (value t r)) ∙ and-true (cared t r)
   where
-    by : (y : Bool) → ltZ (margin y (pos 0)) (pos 1) ≡ true
-    by true = refl
-    by false = refl
+    none : distance (zeroVector .a) (zeroVector .b) (level 2 r) ≡ pos 0
+    none = rw (mul-zero (level 2 r 0), mul-zero (level 2 r 1), mul-zero (level 2 r 2), mul-zero (level 2 r 3), mul-zero (level 2 r 4), mul-zero (level 2 r 5), mul-zero (level 2 r 6), mul-zero (level 2 r 7)) refl
 
--- so it is the lowest failing row
-pub zero-failing : (t : Table) → failing (functionOf t) zeroVector ≡ some 0
-zero-failing t = failing-at (functionOf t) zeroVector 0 (record {
-  start = omega arith;
-  inside = omega (arith, pow-pos (t .n));
-  passes = zero-fails t;
-  before = λ p l k. absurd (omega arith);
-})
+    zero-below : (y : Bool) → ltZ (margin y (pos 0)) (pos 1) ≡ true
+    zero-below true = refl
+    zero-below false = refl
+
+    by : (y : Bool) → ltZ (margin y (distance (zeroVector .a) (zeroVector .b) (level 2 r))) (pos 1) ≡ true
+    by y = ap (λ (z : ℤ). ltZ (margin y z) (pos 1)) none ∙ zero-below y
+
+-- so the lowest failing row is the lowest that is cared for
+pub zero-failing : (t : Table) → failing (functionOf t) zeroVector ≡ firstFrom (cared t) (rows t) 0
+unfolding failing
+zero-failing t = first-cong (fails (functionOf t) zeroVector) (cared t) (rows t) 0 (zero-fails t)

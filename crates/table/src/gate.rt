@@ -1,14 +1,17 @@
 // A threshold gate: its distance and value on a row, and whether it realises a table.
+use crate::table::row_cared;
 use crate::table::row_count;
 use crate::table::row_value;
 use types::gate::Gate;
 use types::table::Table;
 ghost use mathlib.Core.Path.{_≡_};
+ghost use mathlib.Core.Bool.{not, _||_};
 ghost use Prim.Native.Nat.{_≤_, _<_};
 ghost use lib.IntN.{pos};
 ghost use lib.ListN.{getD};
+ghost use Rattle.numbers.specs.Tests.{sameBool};
 ghost use Rattle.table.specs.Gate.{within, placeLimit, inRange, beyond};
-ghost use Rattle.table.specs.Table.{functionOf};
+ghost use Rattle.table.specs.Table.{value, cared, functionOf};
 ghost use Rattle.function.specs.Gate.{distance, gateTrue, realises};
 ghost use Rattle.function.specs.Function.{level};
 
@@ -37,7 +40,18 @@ pub fn gate_true(gate: Gate, row: usize) -> bool
     row_distance(weights, gate.threshold, row) >= 0
 }
 
-// Whether the gate agrees with the table on every row.
+// Whether the gate agrees with the table on a row, or the row is not cared for.
+fn agrees_at(table: Table, gate: Gate, row: usize) -> bool
+    requires { ⌜ row < 256 ⌝ }
+    ensures { λ r. ⌜ r ≡ (not (cared table row) || sameBool (gateTrue (gate .weights) (gate .threshold) (level 2 row)) (value table row)) ⌝ }
+{
+    if gate_true(gate, row) == row_value(table, row) {
+        return true;
+    }
+    !row_cared(table, row)
+}
+
+// Whether the gate agrees with the table on every row that is cared for.
 pub fn gate_realises(table: Table, gate: Gate) -> bool
     requires { ⌜ table .n ≤ 8 ⌝ }
     ensures { λ r. ⌜ r ≡ realises (gate .weights) (gate .threshold) (functionOf table) ⌝ }
@@ -45,7 +59,7 @@ pub fn gate_realises(table: Table, gate: Gate) -> bool
     let rows = row_count(table.n);
     let mut row: usize = 0;
     while row < rows {
-        if gate_true(gate, row) != row_value(table, row) {
+        if !agrees_at(table, gate, row) {
             return false;
         }
         row = row + 1;

@@ -1,14 +1,14 @@
 // The kinds of a table's inputs.
 use crate::table::row_count;
-use crate::table::row_value;
 use types::inputs::InputKind;
 use types::inputs::Place;
 use types::table::Table;
 ghost use mathlib.Core.Path.{_≡_};
+ghost use mathlib.Core.Bool.{_&&_};
 ghost use Prim.Native.Nat.{_≤_, _<_};
 ghost use Rattle.table.specs.Inputs.{lowestOf, isFound, kindBy, inputKindAt, kindsOf};
 ghost use Rattle.function.specs.Turns.{turnsAt, firstTurn};
-ghost use Rattle.table.specs.Table.{functionOf};
+ghost use Rattle.table.specs.Table.{bitAt, functionOf};
 
 // The lowest number that a search finds, of a row or of a place.
 pub enum Lowest {
@@ -16,19 +16,40 @@ pub enum Lowest {
     Nowhere,
 }
 
-// Whether making the place's input true in a row without it turns the value to `to`.
-fn turns_at(table: Table, to: bool, place: usize, row: usize) -> bool
+// Returns the bit of a row, among values or care bits.
+fn row_bit(bits: &[u8; 32], row: usize) -> bool
+    requires { ⌜ row < 256 ⌝ }
+    ensures { λ r. ⌜ r ≡ bitAt (now (bits .entry)) row ⌝ }
+{
+    let at = row / 8;
+    let byte = bits[at];
+    (byte >> (row % 8)) % 2 == 1
+}
+
+// Whether two rows are cared for.
+fn both_cared(cares: &[u8; 32], row: usize, partner: usize) -> bool
+    requires { ⌜ (row < 256) × (partner < 256) ⌝ }
+    ensures { λ r. ⌜ r ≡ (bitAt (now (cares .entry)) row && bitAt (now (cares .entry)) partner) ⌝ }
+{
+    row_bit(cares, row) && row_bit(cares, partner)
+}
+
+// Whether making the place's input true in a row without it turns the value to `to`, and both rows are cared for. The table's bits are lent.
+fn turns_at(values: &[u8; 32], cares: &[u8; 32], to: bool, place: usize, row: usize) -> bool
     requires { ⌜ (place < 8) × (row < 256) ⌝ }
-    ensures { λ r. ⌜ r ≡ turnsAt (functionOf table) to place row ⌝ }
+    ensures { λ r. ⌜ ((t : Table) → now (values .entry) ≡ t .bytes → now (cares .entry) ≡ t .cares → r ≡ turnsAt (functionOf t) to place row) ⌝ }
 {
     if (row >> place) % 2 == 1 {
         return false;
     }
     let partner = row + (1usize << place);
-    if row_value(table, row) == to {
+    if row_bit(values, row) == to {
         return false;
     }
-    row_value(table, partner) == to
+    if row_bit(values, partner) != to {
+        return false;
+    }
+    both_cared(cares, row, partner)
 }
 
 // Returns the lowest row in which the place's input turns the value to `to`.
@@ -36,10 +57,12 @@ pub fn first_turn(table: Table, to: bool, place: usize) -> Lowest
     requires { ⌜ (table .n ≤ 8) × (place < 8) ⌝ }
     ensures { λ r. ⌜ r ≡ lowestOf (firstTurn (functionOf table) to place) ⌝ }
 {
+    let values = table.bytes;
+    let cares = table.cares;
     let rows = row_count(table.n);
     let mut row: usize = 0;
     while row < rows {
-        if turns_at(table, to, place, row) {
+        if turns_at(&values, &cares, to, place, row) {
             return Lowest::At(row);
         }
         row = row + 1;

@@ -1,12 +1,16 @@
 // A witness: a count for each row, and whether the counts are in their ranges.
+use crate::table::row_cared;
 use crate::table::row_count;
 use types::table::Table;
 use types::witness::Witness;
 ghost use mathlib.Core.Path.{_≡_};
-ghost use Prim.Native.Nat.{_≤_};
+ghost use mathlib.Core.Bool.{_||_};
+ghost use Prim.Native.Nat.{_≤_, _<_};
+ghost use lib.Dec.{eqb};
 ghost use lib.ListN.{length, drop};
 ghost use Rattle.numbers.specs.Tests.{allAtMost};
-ghost use Rattle.function.specs.Witness.{sameCounts};
+ghost use Rattle.function.specs.Witness.{countOf, countsCared, sameCounts};
+ghost use Rattle.table.specs.Table.{cared, functionOf};
 ghost use Rattle.table.specs.Witness.{unfit};
 
 // A count lies in 0 to this limit.
@@ -20,6 +24,33 @@ pub fn counts_within(counts: &[u32; 256], from: usize, limit: u32) -> bool
     let mut row = from;
     while row < 256 {
         if limit < counts[row] {
+            return false;
+        }
+        row = row + 1;
+    }
+    true
+}
+
+// Whether a row is cared for, or has no count.
+fn is_spared(table: Table, row: usize, count: u32) -> bool
+    requires { ⌜ row < 256 ⌝ }
+    ensures { λ r. ⌜ r ≡ (cared table row || eqb count 0) ⌝ }
+{
+    if count == 0 {
+        return true;
+    }
+    row_cared(table, row)
+}
+
+// Whether no row that is not cared for has a count.
+pub fn counts_cared(table: Table, counts: &[u32; 256]) -> bool
+    requires { ⌜ table .n ≤ 8 ⌝ }
+    ensures { λ r. ⌜ r ≡ countsCared (functionOf table) (countOf (now (counts .entry))) ⌝ }
+{
+    let rows = row_count(table.n);
+    let mut row: usize = 0;
+    while row < rows {
+        if !is_spared(table, row, counts[row]) {
             return false;
         }
         row = row + 1;

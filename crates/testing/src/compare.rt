@@ -29,9 +29,17 @@ fn same_bytes(x: [u8; 32], y: [u8; 32]) -> bool
 pub fn same_table(x: Table, y: Table) -> bool
     ensures { λ r. ⌜ r ≡ true ↔ x ≡ y ⌝ }
 {
+    if x.n != y.n {
+        return false;
+    }
     let x_bytes = x.bytes;
     let y_bytes = y.bytes;
-    x.n == y.n && same_bytes(x_bytes, y_bytes)
+    if !same_bytes(x_bytes, y_bytes) {
+        return false;
+    }
+    let x_cares = x.cares;
+    let y_cares = y.cares;
+    same_bytes(x_cares, y_cares)
 }
 
 // Whether the gate has n inputs, with the weights and T that a vector is.

@@ -1,4 +1,4 @@
-// Jobs from lines of text. The words of a line are a name, n, the table's bytes in base sixteen, the stage's letter, a row, a budget,
+// Jobs from lines of text. The words of a line are a name, n and the table, as `papers::line` has them, the stage's letter, a row, a budget,
 // K and M, and then three for each number that is not 0: `v` or `s`, place and component, where place 0 is b, or `c`, row and count.
 // A capital sets every component or count, whatever its place.
 use crate::stage;

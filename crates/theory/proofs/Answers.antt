@@ -11,7 +11,7 @@ use native.Mathlib.Omega.{arith}
 use lib.IntN.{ℤ, pos, _+ℤ_}
 use lib.Signed.{leZ, ltZ}
 use borrow.Author.Tests.{eq-eqb}
-use Rattle.cell.proofs.TableChecked.{kept-inputs}
+use Rattle.cell.proofs.TableChecked.{all-kept, kept-inputs}
 use Rattle.numbers.specs.Tests.{allAtMost}
 use Rattle.numbers.proofs.Int.{integers, parts-add, parts-neg}
 use Rattle.numbers.proofs.TestLaws.{not-passed, or-neither, all-at-most-at, all-at-most-from}
@@ -129,10 +129,6 @@ ended-excludes j n s = state-excludes s (rows-le n)
 
 -- ---- in the checker's words
 
--- it is not refused in a call with further rules that are kept
-table-kept : (t : Table) (others : List Rule) → NoneBroken (tableRules t []) → NoneBroken others → NoneBroken (tableRules t others)
-table-kept t others (also many (also spare none)) kept = also many (also spare kept)
-
 -- a sound job's gate keeps the range of 7
 gate-in-range : (j : Job) → Sound j → beyond (gateOf j) ≡ false
 gate-in-range j s =
@@ -142,7 +138,7 @@ gate-in-range j s =
 pub found-accepted : (j : Job) → Sound j → NoneBroken (tableRules (j .table) []) → j .state .stage ≡ Found → checkGate (j .table) (gateOf j) ≡ answered true
 found-accepted j s kept e =
     none-broken-answered (checkGateRules (j .table) (gateOf j)) (answered (realises (j .state .v .a) (j .state .v .b) (functionOf (j .table))))
-    (also (ap not (eq-eqb (j .table .n) (j .table .n) refl)) (table-kept (j .table) _ kept (also (gate-in-range j s) none)))
+    (also (ap not (eq-eqb (j .table .n) (j .table .n) refl)) (all-kept (j .table) kept (also (gate-in-range j s) none)))
     ∙ ap answered (realises-correct (j .state .v .a) (j .state .v .b) (functionOf (j .table)) .1 (found-realises j s e))
 
 -- the counts of a job that has ended without a gate are within the limit
@@ -180,5 +176,5 @@ pub ended-accepted : (j : Job) → Sound j → NoneBroken (tableRules (j .table)
 ended-accepted j s kept e =
     let n = kept-inputs (j .table) kept in
     none-broken-answered (checkWitnessRules (j .table) (witnessOf j)) (answered (balances (functionOf (j .table)) (countOf (j .state .counts))))
-    (table-kept (j .table) _ kept (also (witness-in-range j n s e) none))
+    (all-kept (j .table) kept (also (witness-in-range j n s e) none))
     ∙ ap answered (balances-correct (functionOf (j .table)) (countOf (j .state .counts)) .1 (ended-balances j n s e))

@@ -1,7 +1,7 @@
 -- The marked cases hold: each is computed. Assumes nothing.
 use mathlib.Core.Path.{refl}
 use lib.Count.{leadingZeros}
-use Rattle.table.specs.Table.{bitAt, spareSet}
+use Rattle.table.specs.Table.{bitAt, spareSet, rowBytes, strayValue}
 use Rattle.table.specs.Gate.{inRange}
 use Rattle.function.specs.Gate.{distance}
 use Rattle.function.specs.Witness.{countsCared, balances}
@@ -13,6 +13,8 @@ use Rattle.function.specs.Vector.{addLevels, correctedBy, sameList, sameVector}
 use Rattle.state.specs.Machine.{corrected, marked, settled, closed, stepIn}
 use Rattle.state.specs.Machine as state
 use Rattle.job.specs.Machine.{run, fresh}
+use Rattle.numbers.specs.Packed.{packed}
+use Rattle.numbers.specs.Tabulate.{tabulate}
 use Rattle.numbers.specs.Power.{highest}
 use Rattle.function.specs.Binate.{binateAt, binatePlace, binateCounts}
 use Rattle.state.specs.Sound.{isTraced, soundIn, isSound}
@@ -20,7 +22,7 @@ use Rattle.theory.specs.Cases.{MarkedCases}
 
 -- m1 to m10 hold
 pub marked-cases : MarkedCases
-unfolding leadingZeros bitAt spareSet distance inRange balances unfit firstTurn chowOf fails failing addLevels correctedBy corrected sameList sameVector highest marked settled closed stepIn state.step state.run run binateAt binatePlace binateCounts state.fresh fresh isTraced soundIn countsCared isSound
+unfolding leadingZeros tabulate packed bitAt spareSet rowBytes strayValue distance inRange balances unfit firstTurn chowOf fails failing addLevels correctedBy corrected sameList sameVector highest marked settled closed stepIn state.step state.run run binateAt binatePlace binateCounts state.fresh fresh isTraced soundIn countsCared isSound
 marked-cases = record {
   m1 = record { stage = refl; corrections = refl; vector = refl };
   m2 = record { stage = refl; corrections = refl; vector = refl };

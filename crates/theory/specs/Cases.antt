@@ -7,7 +7,7 @@ use lib.ListN.{set}
 use lib.IntN.{ℤ, pos, negℤ}
 use Rattle.types.specs.declared.table.Table.{Table}
 use Rattle.types.specs.declared.gate.Gate.{Gate}
-use Rattle.table.specs.Table.{padded}
+use Rattle.table.specs.Table.{padded, wholeTable}
 use Rattle.cell.specs.Refusal.{answered, refused}
 use Rattle.cell.specs.Calls.{gateValue, checkWitness, chowParameters}
 use Rattle.job.specs.declared.job.Job.{Job}
@@ -20,9 +20,9 @@ use Rattle.job.specs.Calls.{carryOn}
 
 -- ---- arrays by what they hold first
 
--- n inputs, and the bytes of the rows
+-- n inputs, and the bytes of the rows, every one of which is cared for
 abbrev pub table : ℕ → List ℕ → Table
-table n bytes = record { n = n; bytes = padded 32 0 bytes }
+table n bytes = wholeTable n (padded 32 0 bytes)
 
 -- eight places of integers
 abbrev pub places : List ℤ → List ℤ

@@ -14,8 +14,9 @@ ghost use Rattle.outcome.specs.Outcome.{HandedOver};
 ghost use Rattle.requests.specs.Requests.{freshRecord, corrections};
 ghost use Rattle.threshold.specs.Interface.{decide, carriedOn};
 
-// Decides the table of a kind 1 record: writes its gate (kind 2), its witness (kind 3), or the job that is open after 100,000 corrections
-// (kind 4), and sets `made` to the corrections made. Returns the length. Refusals: 1 to 9 as the record is read, 100 for another kind, 12.
+// Decides the table of a kind 1 or 5 record: writes its gate (kind 2), its witness (kind 3), or the job that is open after 100,000 corrections
+// (kind 4 or 6), and sets `made` to the corrections made. Returns the length. Refusals: 1 to 9 and 16 as the record is read, 100 for another
+// kind, 16 of a gate or a witness where a row is not cared for, 12.
 #[no_mangle]
 pub extern "C" fn threshold_decide(bytes: &[u8], out: &mut [u8], made: &mut u32) -> i64
     ensures { λ r. ⌜ HandedOver (decide (now (bytes .entry)) (length (now (out .entry)))) (now (out .entry)) (now (made .entry)) r (now (out .exit)) (now (made .exit)) ⌝ }
@@ -28,8 +29,8 @@ pub extern "C" fn threshold_decide(bytes: &[u8], out: &mut [u8], made: &mut u32)
     decide_table(given.table, out, made)
 }
 
-// Carries the open job of a kind 4 record on by a budget; writes what it has come to and sets `made`, as `threshold_decide` does. Returns the
-// length. Refusals: 1 to 9 as the record is read, 100 for another kind, 10, 11, 12.
+// Carries the open job of a kind 4 or 6 record on by a budget; writes what it has come to and sets `made`, as `threshold_decide` does. Returns
+// the length. Refusals: 1 to 9 and 16 as the record is read, 100 for another kind, 10, 11, 16 as there, 12.
 #[no_mangle]
 pub extern "C" fn threshold_carry_on(
     bytes: &[u8],
@@ -47,8 +48,8 @@ pub extern "C" fn threshold_carry_on(
     carry_job(given.job, budget, out, made)
 }
 
-// Writes the fresh job of a kind 1 record's table, kind 4, or the witness that it has ended with, kind 3. Returns the length. Refusals: 1 to
-// 9 as the record is read, 100 for another kind, 12.
+// Writes the fresh job of a kind 1 or 5 record's table, kind 4 or 6, or the witness that it has ended with, kind 3. Returns the length. Refusals:
+// 1 to 9 and 16 as the record is read, 100 for another kind, 16 of a job that has ended where a row is not cared for, 12.
 #[no_mangle]
 pub extern "C" fn threshold_fresh(bytes: &[u8], out: &mut [u8]) -> i64
     ensures { λ r. ⌜ Returned (freshRecord (now (bytes .entry)) (length (now (out .entry)))) (now (out .entry)) r (now (out .exit)) ⌝ }
@@ -56,7 +57,7 @@ pub extern "C" fn threshold_fresh(bytes: &[u8], out: &mut [u8]) -> i64
     fresh_record(bytes, out)
 }
 
-// Returns the corrections that a kind 4 record's job has made, K. Refusals: 1 to 9 as the record is read, 100 for another kind.
+// Returns the corrections that a kind 4 or 6 record's job has made, K. Refusals: 1 to 9 and 16 as the record is read, 100 for another kind.
 #[no_mangle]
 pub extern "C" fn threshold_corrections(bytes: &[u8]) -> i64
     ensures { λ r. ⌜ r ≡ asResult (corrections (now (bytes .entry))) ⌝ }

@@ -1,7 +1,8 @@
--- Laws of the words of a table: a byte is eight of its bits, what is left of a word past the rows, and the pairs of an input. An input of
--- place 0 to 5 pairs rows of one word, and a higher one pairs the rows of two words. Assumes nothing.
+-- Laws of the words of a table: a byte is eight of its bits, what is left of a word past the rows, the true rows and the false rows of a word
+-- that are cared for, and the pairs of an input. An input of place 0 to 5 pairs rows of one word, and a higher one pairs the rows of two words.
+-- Assumes nothing.
 use mathlib.Core.Path.{_≡_, refl, sym, _∙_, ap, ap₂}
-use mathlib.Core.Bool.{Bool, true, false, _&&_}
+use mathlib.Core.Bool.{Bool, true, false, not, _&&_}
 use mathlib.Core.List.{List}
 use Prim.Native.Nat.{ℕ, suc, _+_, _-_, _*_, _/_, _%_, _^_, _≤_, _<_}
 use native.Mathlib.Nat.{pow-suc, add-mul-div-right}
@@ -15,11 +16,14 @@ use borrow.Author.Tests.{eqb-true, lt-ltb, le-ltb}
 use Rattle.table.specs.Table.{bitAt}
 use Rattle.function.specs.Function.{level}
 use Rattle.table.proofs.TableLaws.{partner-below}
-use Rattle.machine.proofs.ValueLaws.{byte-bit}
+use Rattle.table.proofs.RowLaws.{byte-bit}
 use Rattle.numbers.specs.Packed.{packed}
+use Rattle.numbers.specs.Tests.{sameBool}
+use Rattle.numbers.specs.Tabulate.{tabulate}
+use Rattle.numbers.proofs.TabulateLaws.{getD-tabulate}
 use Rattle.unateness.specs.Words.{wordOf, bitsFrom, lacks, ownAt, partnerAt}
 use Rattle.machine.specs.Scan.{inTable}
-use Rattle.numbers.proofs.PackedLaws.{packed-ext, packed-and, packed-none, packed-append, packed-digits, packed-cut, packed-shift}
+use Rattle.numbers.proofs.PackedLaws.{packed-ext, packed-and, packed-not, packed-none, packed-append, packed-digits, packed-cut, packed-shift}
 
 -- ---- the bytes
 
@@ -65,6 +69,34 @@ module _ (bytes : List ℕ) (rows k : ℕ) where
       inside : (j : ℕ) → Dec (rows - 64 * k ≤ j) → ltb j (rows - 64 * k) ≡ ltb (64 * k + j) rows
       inside j (yes past) = le-ltb j (rows - 64 * k) past ∙ sym (le-ltb (64 * k + j) rows (omega arith))
       inside j (no before) = lt-ltb j (rows - 64 * k) (omega arith) ∙ sym (lt-ltb (64 * k + j) rows (omega arith))
+
+-- a word that a list holds
+pub word-is : {words : List ℕ} (f : ℕ → Bool) (k : ℕ) → k < 4 → words ≡ tabulate 4 (wordOf f) → getD words k 0 ≡ wordOf f k
+word-is f k h e = ap (λ (l : List ℕ). getD l k 0) e ∙ getD-tabulate (wordOf f) 4 k 0 h
+
+-- ---- the sides
+
+same-true : (b : Bool) → b ≡ sameBool b true
+same-true true = refl
+same-true false = refl
+
+same-false : (b : Bool) → not b ≡ sameBool b false
+same-false true = refl
+same-false false = refl
+
+module _ (cares values : ℕ → Bool) (k : ℕ) where
+  -- the rows of a word that are cared for and true
+  pub word-trues : bitAnd (wordOf cares k) (wordOf values k) ≡ wordOf (λ r. cares r && sameBool (values r) true) k
+  word-trues =
+      packed-and 64 (λ j. cares (64 * k + j)) (λ j. values (64 * k + j))
+      ∙ packed-ext 64 _ _ (λ j l. ap (λ (b : Bool). cares (64 * k + j) && b) (same-true (values (64 * k + j))))
+
+  -- and those that are cared for and false
+  pub word-falses : bitAnd (wordOf cares k) (2 ^ 64 - 1 - wordOf values k) ≡ wordOf (λ r. cares r && sameBool (values r) false) k
+  word-falses =
+      ap (bitAnd (wordOf cares k)) (packed-not 64 (λ j. values (64 * k + j)))
+      ∙ packed-and 64 (λ j. cares (64 * k + j)) (λ j. not (values (64 * k + j)))
+      ∙ packed-ext 64 _ _ (λ j l. ap (λ (b : Bool). cares (64 * k + j) && b) (same-false (values (64 * k + j))))
 
 -- ---- levels
 

@@ -1,30 +1,32 @@
 // The binate input of a table, and the counts that show it.
 use crate::words::pairs_at;
-use crate::words::row_words;
+use crate::words::side_words;
 use table::inputs::Lowest;
 use table::inputs::first_turn;
+use table::table::row_count;
 use types::table::Table;
 ghost use mathlib.Core.Path.{_≡_};
 ghost use mathlib.Core.Option.{Option, some};
-ghost use Prim.Native.Nat.{ℕ, _+_, _^_, _≤_, _<_};
+ghost use Prim.Native.Nat.{ℕ, _+_, _*_, _^_, _≤_, _<_};
 ghost use lib.ListN.{getD};
 ghost use Rattle.table.specs.Inputs.{lowestOf};
 ghost use Rattle.function.specs.Binate.{pairMore, binateAt, binatePlace, binateCounts};
-ghost use Rattle.unateness.specs.Words.{rowWords};
-ghost use Rattle.table.specs.Table.{functionOf};
+ghost use Rattle.unateness.specs.Words.{sideWords};
+ghost use Rattle.table.specs.Table.{rows, functionOf};
 
-// Whether the place's input rises somewhere and falls elsewhere, by the values of the rows.
-fn binate_at(words: &[u64; 4], place: usize) -> bool
-    requires { ⌜ place < 8 ⌝ }
-    ensures { λ r. ⌜ ((t : Table) → t .n ≤ 8 → place < t .n → now (words .entry) ≡ rowWords t → r ≡ binateAt (functionOf t) place) ⌝ }
+// Whether the place's input rises somewhere and falls elsewhere, by the rows that are cared for, which so many words hold.
+fn binate_at(trues: &[u64; 4], falses: &[u64; 4], words: usize, place: usize) -> bool
+    requires { ⌜ (words ≤ 4) × (place < 8) ⌝ }
+    ensures { λ r. ⌜ ((t : Table) → rows t ≤ 64 * words → place < t .n → now (trues .entry) ≡ sideWords t .trues → now (falses .entry) ≡ sideWords t .falses → r ≡ binateAt (functionOf t) place) ⌝ }
 {
     let mut rises: u64 = 0;
     let mut falls: u64 = 0;
     let mut at: usize = 0;
-    while at < 4 {
-        let pairs = pairs_at(words, place, at);
-        rises = rises | (!pairs.own & pairs.partner);
-        falls = falls | (pairs.own & !pairs.partner);
+    while at < words {
+        let on = pairs_at(trues, place, at);
+        let off = pairs_at(falses, place, at);
+        rises = rises | (off.own & on.partner);
+        falls = falls | (on.own & off.partner);
         at = at + 1;
     }
     rises != 0 && falls != 0
@@ -35,11 +37,14 @@ pub fn binate_place(table: Table) -> Lowest
     requires { ⌜ table .n ≤ 8 ⌝ }
     ensures { λ r. ⌜ r ≡ lowestOf (binatePlace (functionOf table)) ⌝ }
 {
-    let words = row_words(table);
+    let sides = side_words(table);
+    let trues = sides.trues;
+    let falses = sides.falses;
     let n = table.n as usize;
+    let words = (row_count(table.n) + 63) / 64;
     let mut place: usize = 0;
     while place < n {
-        if binate_at(&words, place) {
+        if binate_at(&trues, &falses, words, place) {
             return Lowest::At(place);
         }
         place = place + 1;

@@ -1,4 +1,4 @@
-// The values of a table's rows as bits: row r is bit r mod 64 of word r div 64, so that one operation serves 64 rows.
+// A table's rows as bits: row r is bit r mod 64 of word r div 64, so that one operation serves 64 rows.
 use table::table::row_count;
 use types::table::Table;
 ghost use mathlib.Core.Path.{_≡_};
@@ -6,7 +6,7 @@ ghost use mathlib.Core.Bool.{Bool};
 ghost use Prim.Native.Nat.{ℕ, _*_, _≤_, _<_};
 ghost use Rattle.numbers.specs.Tabulate.{tabulate};
 ghost use Rattle.numbers.specs.Packed.{packed};
-ghost use Rattle.unateness.specs.Words.{lacks, bitsFrom, wordOf, rowWords, pairsOf};
+ghost use Rattle.unateness.specs.Words.{lacks, bitsFrom, wordOf, sideWords, pairsOf};
 ghost use Rattle.machine.specs.Scan.{inTable};
 
 // Returns a byte as a word.
@@ -30,7 +30,7 @@ fn eight_bytes(bytes: &[u8; 32], first: usize) -> u64
     word
 }
 
-// Returns the values of the 64 rows from 64 * at on; past the `rows` of the table they are 0.
+// Returns the bits of the 64 rows from 64 * at on; past the `rows` of the table they are 0.
 fn word_at(bytes: &[u8; 32], rows: usize, at: usize) -> u64
     requires { ⌜ at < 4 ⌝ }
     ensures { λ r. ⌜ r ≡ wordOf (inTable rows (now (bytes .entry))) at ⌝ }
@@ -47,23 +47,34 @@ fn word_at(bytes: &[u8; 32], rows: usize, at: usize) -> u64
     word
 }
 
-// Returns the values of the table's rows.
-pub fn row_words(table: Table) -> [u64; 4]
+// The rows that are cared for: the true ones, and the false ones.
+pub struct Sides {
+    pub trues: [u64; 4],
+    pub falses: [u64; 4],
+}
+
+// Returns the rows of the table that are cared for, by their values.
+pub fn side_words(table: Table) -> Sides
     requires { ⌜ table .n ≤ 8 ⌝ }
-    ensures { λ r. ⌜ r ≡ rowWords table ⌝ }
+    ensures { λ r. ⌜ r ≡ sideWords table ⌝ }
 {
     let rows = row_count(table.n);
     let bytes = table.bytes;
-    let mut words = [0u64; 4];
+    let cares = table.cares;
+    let mut trues = [0u64; 4];
+    let mut falses = [0u64; 4];
     let mut at: usize = 0;
     while at < 4 {
-        words[at] = word_at(&bytes, rows, at);
+        let cared = word_at(&cares, rows, at);
+        let values = eight_bytes(&bytes, 8 * at);
+        trues[at] = cared & values;
+        falses[at] = cared & !values;
         at = at + 1;
     }
-    words
+    Sides { trues, falses }
 }
 
-// The values of 64 rows without an input, and of their partners with it. Rows that have the input are 0 in both.
+// The bits of 64 rows without an input, and of their partners with it. Rows that have the input are 0 in both.
 pub struct Pairs {
     pub own: u64,
     pub partner: u64,

@@ -14,12 +14,12 @@ use Rattle.view.specs.declared.shown.Verdict.the-variants as Verdict′
 use Rattle.view.specs.declared.shown.Shown.{Shown}
 use Rattle.table.specs.Table.{functionOf}
 
--- ---- whether a row fails in a job: 2, 3, 9, 14
+-- ---- whether a row fails in a job: 2, 3, 16, 9, 14
 
 abbrev pub rowFails : Job → ℕ → Answered Bool
 rowFails j r = checked (jobRules j (pastRows (j .table .n) r ∷ [])) (answered (fails (functionOf (j .table)) (j .state .v) r))
 
--- ---- what a job shows: 2, 3, 9
+-- ---- what a job shows: 2, 3, 16, 9
 
 -- a found job shows its gate, a looped or binate one its witness; an open one is given up so far
 abbrev pub shownIn : Stage → Job → Shown

@@ -7,6 +7,7 @@ use job::job::job_status;
 use machine::scan::fails_by;
 use machine::vector::vector_gate;
 use table::gate::row_distance;
+use table::table::row_cared;
 use table::table::row_count;
 use table::table::row_value;
 use types::gate::Gate;
@@ -43,10 +44,14 @@ fn fails_at(table: Table, v: Vector, row: usize) -> bool
     ensures { λ r. ⌜ r ≡ fails (functionOf table) v row ⌝ }
 {
     let a = v.a;
-    fails_by(row_value(table, row), row_distance(a, v.b, row))
+    fails_by(
+        row_cared(table, row),
+        row_value(table, row),
+        row_distance(a, v.b, row),
+    )
 }
 
-// Says whether a row fails in the job. Refusals: 2, 3, 9, 14.
+// Says whether a row fails in the job. Refusals: 2, 3, 16, 9, 14.
 pub fn row_fails(job: Job, row: usize) -> Answer
     ensures { λ r. ⌜ r ≡ answer (rowFails job row) ⌝ }
 {
@@ -109,7 +114,7 @@ fn shown_witness(job: Job) -> Shown
     }
 }
 
-// Returns the job's gate, its witness, or that it is given up so far. Refusals: 2, 3, 9.
+// Returns the job's gate, its witness, or that it is given up so far. Refusals: 2, 3, 16, 9.
 pub fn show(job: Job) -> Shown
     ensures { λ r. ⌜ r ≡ shown (showJob job) ⌝ }
 {

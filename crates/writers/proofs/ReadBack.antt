@@ -1,4 +1,4 @@
--- Reading what was written gives the same record: each family's body, wherever it stands, and the whole. Assumes nothing.
+-- Reading what was written gives the same record: each body, wherever it stands, and the whole. Assumes nothing.
 use mathlib.Core.Path.{_≡_, refl, sym, _∙_, ap, subst}
 use mathlib.Core.Bool.{Bool, true, false, not}
 use mathlib.Core.List.{List, [], _∷_, _++_}
@@ -14,9 +14,9 @@ use Rattle.table.specs.Table.{rows}
 use Rattle.table.specs.Gate.{weightLimit, inRange}
 use Rattle.table.proofs.TableLaws.{rows-le}
 use Rattle.cell.specs.Refusal.{Rule, rule, Answered, answered, checked, NoneBroken}
-use Rattle.cell.specs.Calls.{tableRules, gateRules, witnessRules}
+use Rattle.cell.specs.Calls.{gateRules, witnessRules}
 use Rattle.cell.proofs.RefusalLaws.{answered-none-broken}
-use Rattle.cell.proofs.TableChecked.{kept-inputs, table-kept}
+use Rattle.cell.proofs.TableChecked.{kept-inputs}
 use Rattle.types.specs.declared.vector.Vector.{Vector}
 use Rattle.job.specs.declared.job.Job.{Job}
 use Rattle.types.specs.declared.stage.Stage.{Stage}
@@ -29,7 +29,7 @@ use Rattle.codec.specs.Field.{field, Reading, onward}
 use Rattle.codec.specs.Number.{numberBytes}
 use Rattle.codec.specs.VectorField.{vectorBytes, vectorAt}
 use Rattle.codec.specs.RowList.{RowList, rowListBytes}
-use Rattle.codec.specs.Kind.{Family, kindOf, everyFamily}
+use Rattle.codec.specs.Kind.{Head, headKind, everyKind}
 use Rattle.codec.specs.TableField.{tableBytes}
 use Rattle.codec.proofs.StandsLaws.{Stands, stands-front, stands-back, stands-head, stands-self, after-both}
 use Rattle.codec.proofs.NumberLaws.{number-read}
@@ -37,11 +37,11 @@ use Rattle.codec.proofs.VectorFieldLaws.{vector-read}
 use Rattle.codec.proofs.RowListRead.{rows-read}
 use Rattle.codec.proofs.KindLaws.{every-taken, kind-read}
 use Rattle.codec.proofs.TableFieldLaws.{table-read}
-use Rattle.records.specs.Record.{Record, ofTable, ofGate, ofWitness, ofJob, family, gateVector, vectorGate, jobBytes, bodyBytes, recordBytes, gateAt, witnessAt, openJob, unsoundJob, countsAt, jobAt, afterTable, bodyAt, bytesLeft, recordAt, singleAt, readRecord}
+use Rattle.records.specs.Record.{Record, ofTable, ofGate, ofWitness, ofJob, family, tableIn, headIn, gateVector, vectorGate, jobBytes, bodyBytes, recordBytes, gateAt, witnessAt, openJob, unsoundJob, countsAt, jobAt, restAt, bodyAt, bytesLeft, recordAt, singleAt, readRecord}
 use Rattle.writers.specs.Calls.{tooShort, recordRules, writeRecord}
-use Rattle.bodies.proofs.RecordParts.{Shaped, kind-and-body, same-inputs, gate-in-limits, witness-fits, savable}
+use Rattle.bodies.proofs.RecordParts.{Shaped, held, restBytes, kind-and-body, body-parts, same-inputs, gate-in-limits, witness-fits, savable}
 use Rattle.bodies.proofs.BodyLaws.{job-bytes, job-count}
-use Rattle.writers.proofs.KeptLaws.{kept-open}
+use Rattle.writers.proofs.KeptLaws.{kept-table, kept-gate, kept-witness, kept-plain, kept-open}
 
 -- ---- read after write
 
@@ -102,45 +102,44 @@ witness-read t w full kept s at stands =
     ap (λ (r : Reading RowList). onward r (λ list next. answered (field (ofWitness t (record { counts = list .counts })) next)))
     (rows-read true (rows t) (w .counts) s at (rows-le (kept-inputs t kept)) full (fit .limit) (fit .past) (λ e. fit .some) stands)
 
--- a table and what follows it, read where they stand
-after-table : (rest : Table → List ℕ → ℕ → Reading Record) (x : Record) (t : Table) (w : List ℕ) → NoneBroken (tableRules t []) → length (t .bytes) ≡ 32
-    → (s : List ℕ) (at : ℕ) → at ≤ length s → Stands s at (tableBytes t ++ w)
-    → (Stands s (at + length (tableBytes t)) w → rest t s (at + length (tableBytes t)) ≡ answered (field x (at + length (tableBytes t) + length w)))
-    → afterTable rest s at ≡ answered (field x (at + length (tableBytes t ++ w)))
-after-table rest x t w kept long s at inside stands later =
-    let table = tableBytes t in
-    ap (λ (r : Reading Table). onward r (λ u p. rest u s p)) (table-read t s at kept long inside (stands-front s at table w stands))
-    ∙ later (stands-back s at table w stands)
-    ∙ ap (λ (next : ℕ). answered (field x next)) (after-both at table w)
+-- what follows the table, read where it stands, by the family
+rest-read : (x : Record) (others : List Rule) → Shaped x → NoneBroken (recordRules x others) → (s : List ℕ) (at : ℕ) → Stands s at (restBytes x)
+    → restAt (family x) (tableIn x) s at ≡ answered (field x (at + length (restBytes x)))
+unfolding restAt
+rest-read (ofTable t) others held kept s at stands = ap (λ (next : ℕ). answered (field (ofTable t) next)) (omega arith)
+rest-read (ofGate t g) others (held, eight) kept s at stands = gate-read t g eight (kept-gate t g others kept) s at stands
+rest-read (ofWitness t w) others (held, full) kept s at stands = witness-read t w full (kept-witness t w others kept) s at stands
+rest-read (ofJob j) others held kept s at stands =
+    job-read j (kept-inputs (j .table) kept) (kept-sound j kept) (kept-open j others kept) s at stands
 
--- a body is read as its record, wherever it stands, by the family
+-- a body is read as its record, wherever it stands, by what its kind byte says
 pub body-read : (x : Record) (others : List Rule) → Shaped x → NoneBroken (recordRules x others) → (s : List ℕ) (at : ℕ) → at ≤ length s
-    → Stands s at (bodyBytes x) → bodyAt (family x) s at ≡ answered (field x (at + length (bodyBytes x)))
-unfolding bodyBytes bodyAt
-body-read (ofTable t) others long kept s at inside stands =
-    ap (λ (r : Reading Table). onward r (λ u p. answered (field (ofTable u) p))) (table-read t s at (table-kept t kept) long inside stands)
-body-read (ofGate t g) others (long, eight) kept s at inside stands =
-    after-table gateAt (ofGate t g) t (vectorBytes (t .n) (gateVector g)) (table-kept t (same-inputs t g kept .1)) long s at inside stands (gate-read t g eight kept s (at + length (tableBytes t)))
-body-read (ofWitness t w) others (long, full) kept s at inside stands =
-    after-table witnessAt (ofWitness t w) t (rowListBytes (w .counts)) (table-kept t kept) long s at inside stands (witness-read t w full kept s (at + length (tableBytes t)))
-body-read (ofJob j) others long kept s at inside stands =
-    let t = j .table in
-    after-table jobAt (ofJob j) t (jobBytes j) (table-kept t kept) long s at inside stands (job-read j (kept-inputs t kept) (kept-sound j kept) (kept-open j others kept) s (at + length (tableBytes t)))
+    → Stands s at (bodyBytes x) → bodyAt (headIn x) s at ≡ answered (field x (at + length (bodyBytes x)))
+unfolding bodyAt
+body-read x others shaped kept s at inside stands =
+    let table = tableBytes (tableIn x) in
+    let rest = restBytes x in
+    let parts : Stands s at (table ++ rest) = subst (Stands s at) (body-parts x) stands in
+    let first = table-read (tableIn x) s at (kept-table x others kept) (held x shaped) inside (stands-front s at table rest parts) in
+    ap (λ (r : Reading Table). onward r (λ t p. restAt (family x) t s p)) first
+    ∙ rest-read x others shaped kept s (at + length table) (stands-back s at table rest parts)
+    ∙ ap (λ (next : ℕ). answered (field x next)) (after-both at table rest ∙ ap (λ (l : List ℕ). at + length l) (sym (body-parts x)))
 
 -- a record's bytes, alone, are read as the record
 record-read : (x : Record) (others : List Rule) → Shaped x → NoneBroken (recordRules x others) → readRecord (recordBytes x) ≡ answered x
 unfolding recordAt singleAt
 record-read x others shaped kept =
     let s = recordBytes x in
-    let f = family x in
-    let kind = kindOf f ∷ [] in
+    let h = headIn x in
+    let kind = headKind h ∷ [] in
     let body = bodyBytes x in
     let stands : Stands s 0 (kind ++ body) = subst (Stands s 0) (kind-and-body x) (stands-self s) in
-    let inside = stands-head s 0 (kindOf f) body stands in
-    let first = kind-read everyFamily f s 0 body (every-taken f) stands in
+    let inside = stands-head s 0 (headKind h) body stands in
+    let plain = kept-plain x others kept in
+    let first = kind-read everyKind h s 0 body (every-taken (h .family) (h .cares) (plain .gate) (plain .witness)) stands in
     let second = body-read x others shaped kept s (0 + 1) (omega (arith, inside .0)) (stands-back s 0 kind body stands) in
     let whole : length s ≡ 1 + length body = omega (arith, ap length (kind-and-body x)) in
-    ap (λ (r : Reading Family). onward (onward r (λ g p. bodyAt g s p)) (ended s)) first
+    ap (λ (r : Reading Head). onward (onward r (λ g p. bodyAt g s p)) (ended s)) first
     ∙ ap (λ (r : Reading Record). onward r (ended s)) second
     ∙ ap (λ (b : Bool). checked (rule 6 b ∷ []) (answered x)) (le-ltb (0 + 1 + length body) (length s) (omega arith))
   where

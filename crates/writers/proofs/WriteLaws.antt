@@ -1,23 +1,27 @@
 -- What a call that writes a record comes to, over any record: its status, the room for 1 + the body's length, the kind byte and the body.
 -- Assumes nothing.
-use mathlib.Core.Path.{_≡_, refl, _∙_, ap, subst}
-use mathlib.Core.Bool.{Bool, true, false}
+use mathlib.Core.Path.{_≡_, refl, sym, _∙_, ap, subst}
+use mathlib.Core.Bool.{Bool, true, false, not, cond}
 use mathlib.Core.List.{List, [], _∷_, _++_}
 use Prim.Native.Nat.{ℕ, _+_, _≤_, _<_}
 use native.Mathlib.Omega.{arith}
 use lib.Dec.{ltb}
 use lib.ListN.{length}
 use borrow.Author.Tests.{lt-ltb, le-ltb}
+use Rattle.types.specs.declared.table.Table.{Table}
+use Rattle.types.specs.declared.gate.Gate.{Gate}
+use Rattle.types.specs.declared.witness.Witness.{Witness}
+use Rattle.table.specs.Table.{isWhole}
 use Rattle.cell.specs.Answers.{status}
 use Rattle.cell.specs.declared.refusal.Status.{Status}
 use Rattle.cell.specs.declared.refusal.Status.the-variants as Status′
 use Rattle.cell.specs.Refusal.{Rule, Answered, answered, refused, refuseIf, checked}
 use Rattle.cell.proofs.RefusalLaws.{rule-broken, rule-kept}
 use Rattle.cell.proofs.StatusLaws.{rules-refused, rules-kept, rules-passed}
-use Rattle.codec.specs.Kind.{kindOf}
+use Rattle.codec.specs.Kind.{headKind}
 use Rattle.codec.specs.Written.{Room, Put}
 use Rattle.codec.proofs.WrittenLaws.{written-room, written-next}
-use Rattle.records.specs.Record.{Record, ofTable, ofGate, ofWitness, ofJob, family, bodyBytes, recordBytes}
+use Rattle.records.specs.Record.{Record, ofTable, ofGate, ofWitness, ofJob, headIn, bodyBytes, recordBytes}
 use Rattle.writers.specs.declared.write.Written.{Written}
 use Rattle.writers.specs.declared.write.Written.the-variants as Written′
 use Rattle.writers.specs.Calls.{tooShort, fitted, recordRules, recordChecked, writeRecord, written, lent, WroteBytes, Wrote}
@@ -67,9 +71,12 @@ module _ {x : Record} {old : List ℕ} (passed : Passed x old) {size : ℕ} (lon
   write-short h = refused-as x old (rule-broken 12 [] (answered (recordBytes x)) (lt-ltb (length old) (length (recordBytes x)) (omega (arith, total))) ∙ passed .left)
 
   -- else there is room for the body behind the kind byte, and with both the record is written
-  module _ (fits : 1 + size ≤ length old) where
+  module _ (fits : 1 + size ≤ length old) {k : ℕ} (says : k ≡ headKind (headIn x)) where
     abbrev kind : List ℕ
-    kind = kindOf (family x) ∷ []
+    kind = k ∷ []
+
+    whole : recordBytes x ≡ kind ++ bodyBytes x
+    whole = kind-and-body x ∙ ap (λ (m : ℕ). (m ∷ []) ++ bodyBytes x) (sym says)
 
     both-room : Room old 0 (kind ++ bodyBytes x)
     both-room = omega (arith, long)
@@ -80,9 +87,20 @@ module _ {x : Record} {old : List ℕ} (passed : Passed x old) {size : ℕ} (lon
     pub write-body : {out new : List ℕ} {at end : ℕ} → Put old 0 kind out at → Put out at (bodyBytes x) new end → Wrote x old (Written′.Bytes end) new
     write-body {out} {new} {at} {end} first second =
         let by = rule-kept 12 [] (answered (recordBytes x)) (le-ltb (length old) (length (recordBytes x)) (omega (arith, total))) ∙ passed .left in
-        let put : Put old 0 (recordBytes x) new end = rw (kind-and-body x) (written-next old 0 kind (bodyBytes x) both-room first second) in
+        let put : Put old 0 (recordBytes x) new end = rw whole (written-next old 0 kind (bodyBytes x) both-room first second) in
         let same : end ≡ length (recordBytes x) = omega (arith, put .0) in
         (ap Written′.Bytes same ∙ ap written by, put .1 ∙ ap (lent old) by)
+
+-- a gate and a witness have one kind each
+one-kind : (cares : Bool) (k : ℕ) → k ≡ cond cares k k
+one-kind true k = refl
+one-kind false k = refl
+
+pub gate-kind : (t : Table) (g : Gate) → 2 ≡ headKind (headIn (ofGate t g))
+gate-kind t g = one-kind (not (isWhole t)) 2
+
+pub witness-kind : (t : Table) (w : Witness) → 3 ≡ headKind (headIn (ofWitness t w))
+witness-kind t w = one-kind (not (isWhole t)) 3
 
 -- ---- what a writer's answer says of what it wrote
 

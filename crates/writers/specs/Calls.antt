@@ -1,12 +1,15 @@
 -- The calls that write records: for each its rules in their order, and its answer (document 01, "Records" and "Who causes which number").
 -- Definitions only. Assumes nothing.
 use mathlib.Core.Path.{_≡_}
+use mathlib.Core.Bool.{not}
 use mathlib.Core.List.{List, [], _∷_}
 use Prim.Native.Nat.{ℕ}
 use lib.Dec.{ltb}
 use lib.ListN.{length}
 use Rattle.cell.specs.Refusal.{Rule, rule, Answered, answered, refused, checked}
-use Rattle.cell.specs.Calls.{tableRules, gateRules, witnessRules}
+use Rattle.types.specs.declared.table.Table.{Table}
+use Rattle.table.specs.Table.{isWhole}
+use Rattle.cell.specs.Calls.{otherInputs, gateRange, witnessRange, tableRules}
 use Rattle.job.specs.declared.job.Job.{Job}
 use Rattle.job.specs.Calls.{jobRules, isEnded}
 use Rattle.codec.specs.Written.{writtenAt}
@@ -14,7 +17,7 @@ use Rattle.writers.specs.declared.write.Written.{Written}
 use Rattle.writers.specs.declared.write.Written.the-variants as Written′
 use Rattle.records.specs.Record.{Record, ofTable, ofGate, ofWitness, ofJob, recordBytes}
 
--- ---- write a table (2, 3, 12), a gate (2, 3, 7, 12) or a witness (2, 3, 8, 12), and save a job (2, 3, 9, 13, 12)
+-- ---- write a table (2, 3, 16, 12), a gate (2, 3, 16, 7, 12) or a witness (2, 3, 16, 8, 12), and save a job (2, 3, 16, 9, 13, 12)
 
 -- 12: output buffer too short
 abbrev pub tooShort : {A : Type 0} → ℕ → List A → Rule
@@ -28,11 +31,19 @@ fitted room bytes = checked (tooShort room bytes ∷ []) (answered bytes)
 abbrev pub hasEnded : Job → Rule
 hasEnded j = rule 13 (isEnded (j .state .stage))
 
+-- 16 (document 02, §3): kind 2 or 3 asked for with a row that is not cared for
+abbrev pub uncaredRow : Table → Rule
+uncaredRow t = rule 16 (not (isWhole t))
+
+-- the test of a table that is to stand in a record of kind 2 or 3: 2, 3, 16
+abbrev pub wholeChecked : Table → Answered (Unit {0})
+wholeChecked t = checked (tableRules t (uncaredRow t ∷ [])) (answered tt)
+
 -- the rules of a record, before the others of the call that writes it
 abbrev pub recordRules : Record → List Rule → List Rule
 recordRules (ofTable t) others = tableRules t others
-recordRules (ofGate t g) others = gateRules t g others
-recordRules (ofWitness t w) others = witnessRules t w others
+recordRules (ofGate t g) others = otherInputs t g ∷ tableRules t (uncaredRow t ∷ gateRange g ∷ others)
+recordRules (ofWitness t w) others = tableRules t (uncaredRow t ∷ witnessRange t w ∷ others)
 recordRules (ofJob j) others = jobRules j (hasEnded j ∷ others)
 
 -- the test of a record

@@ -1,10 +1,13 @@
 // How many bytes fields take.
 use table::table::byte_count;
+use table::table::is_whole;
 use types::table::Table;
 use types::vector::Vector;
 ghost use mathlib.Core.Path.{_≡_};
+ghost use mathlib.Core.Bool.{false};
 ghost use Prim.Native.Nat.{_≤_};
 ghost use lib.ListN.{length};
+ghost use Rattle.table.specs.Table.{spareSet};
 ghost use Rattle.codec.specs.Number.{numberBytes, signedCode};
 ghost use Rattle.codec.specs.VectorField.{vectorBytes};
 ghost use Rattle.codec.specs.TableField.{tableBytes};
@@ -45,10 +48,14 @@ pub fn vector_length(v: Vector, n: u8) -> usize
     length + number_length(signed_code(v.b))
 }
 
-// Returns how many bytes a table takes: one for n, and those of its bits.
+// Returns how many bytes a table takes: one for n, those of its values, and those of its care bits, where a row is not cared for.
 pub fn table_length(table: Table) -> usize
-    requires { ⌜ table .n ≤ 8 ⌝ }
+    requires { ⌜ (table .n ≤ 8) × (spareSet (table .n) (table .cares) ≡ false) ⌝ }
     ensures { λ r. ⌜ r ≡ length (tableBytes table) ⌝ }
 {
-    1 + byte_count(table.n)
+    let bits = byte_count(table.n);
+    if is_whole(table) {
+        return 1 + bits;
+    }
+    1 + bits + bits
 }

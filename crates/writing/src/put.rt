@@ -2,18 +2,20 @@
 // values.
 use crate::length::signed_code;
 use table::table::byte_count;
+use table::table::is_whole;
 use types::table::Table;
 use types::vector::Vector;
 ghost use mathlib.Core.Path.{_≡_};
-ghost use mathlib.Core.Bool.{true};
+ghost use mathlib.Core.Bool.{true, false};
 ghost use mathlib.Core.List.{[], _∷_};
 ghost use Prim.Native.Nat.{_≤_, _<_};
 ghost use lib.ListN.{length, take};
+ghost use Rattle.table.specs.Table.{spareSet};
 ghost use Rattle.table.specs.Gate.{weightLimit, inRange};
 ghost use Rattle.codec.specs.Written.{Room, Put};
 ghost use Rattle.codec.specs.Number.{numberBytes};
 ghost use Rattle.codec.specs.VectorField.{vectorBytes};
-ghost use Rattle.codec.specs.TableField.{tableBytes};
+ghost use Rattle.codec.specs.TableField.{careBytes, tableBytes};
 
 // Writes a number below 2^21.
 pub fn put_number(out: &mut [u8], at: usize, x: u32) -> usize
@@ -71,12 +73,25 @@ fn put_bits(out: &mut [u8], at: usize, bits: &[u8], count: usize) -> usize
     at + count
 }
 
-// Writes a table: n, then its bits.
+// Writes the care bits of a table, where a row is not cared for.
+fn put_cares(out: &mut [u8], at: usize, table: Table) -> usize
+    requires { ⌜ (table .n ≤ 8) × (spareSet (table .n) (table .cares) ≡ false) × Room (now out) at (careBytes table) ⌝ }
+    ensures { λ r. ⌜ Put (now (out .entry)) at (careBytes table) (now (out .exit)) r ⌝ }
+{
+    if is_whole(table) {
+        return at;
+    }
+    let cares = table.cares;
+    put_bits(out, at, &cares, byte_count(table.n))
+}
+
+// Writes a table: n, then its values, then its care bits, where a row is not cared for.
 pub fn put_table(out: &mut [u8], at: usize, table: Table) -> usize
-    requires { ⌜ (table .n ≤ 8) × Room (now out) at (tableBytes table) ⌝ }
+    requires { ⌜ (table .n ≤ 8) × (spareSet (table .n) (table .cares) ≡ false) × Room (now out) at (tableBytes table) ⌝ }
     ensures { λ r. ⌜ Put (now (out .entry)) at (tableBytes table) (now (out .exit)) r ⌝ }
 {
     let bytes = table.bytes;
     let bits_at = put_number(out, at, table.n as u32);
-    put_bits(out, bits_at, &bytes, byte_count(table.n))
+    let cares_at = put_bits(out, bits_at, &bytes, byte_count(table.n));
+    put_cares(out, cares_at, table)
 }

@@ -1,6 +1,9 @@
 -- `claims::calls_are_the_machine`: the law of lists, where the table's bytes have the length of the code's type. Assumes nothing.
 use mathlib.Core.Path.{_≡_}
-use lib.ListN.{length}
+use lib.ListN.{length, getD}
+use mir.Syntax.{w8}
+use mir.Val.{Fits}
+use Rattle.codec.proofs.TableFieldLaws.{Held}
 use borrow.Author.Needs.{needs}
 use Rattle.records.specs.Record.{ofJob}
 use Rattle.writers.proofs.ReadBack.{read-back}
@@ -10,7 +13,12 @@ use Rattle.claims.proofs.calls_are_the_machine.Tie as tie
 
 returns : tie.Need-returns
 returns c =
-    let bytes : length (c .args .table .bytes) ≡ 32 = search needs in calls-are-the-machine (λ j. read-back (ofJob j)) (c .args .table) bytes
+    let t = c .args .table in
+    let held : Held t = record {
+      long = search needs;
+      cares = record { size = search needs; fits = λ i l. let byte : Fits w8 (getD (t .cares) i 0) = search needs in byte .fits };
+    } in
+    calls-are-the-machine (λ j. read-back (ofJob j)) t held
 
 pub calls-are-the-machine-spec : {M : Type 1} → statement M
 calls-are-the-machine-spec = tie.close (tie.spec returns)

@@ -3,10 +3,12 @@ use native.Mathlib.Nat.{one-mul}
 use Rattle.function.proofs.VectorLaws.{corrected-threshold}
 use Rattle.function.specs.Function.{level}
 use Rattle.table.specs.Table.{value, functionOf}
-use Rattle.table.proofs.OnTables.{table-realises, table-balances, table-total, table-input-total, table-turns, table-fails, table-corrected-a, zero-failing}
+use Rattle.table.proofs.OnTables.{table-total, table-input-total, table-turns, table-fails, table-corrected-a}
 use Rattle.table.proofs.BinateRows.{table-binate-counts}
-use Rattle.state.proofs.MachineLaws.{fresh-open, fresh-binate}
+use Rattle.state.proofs.MachineLaws.{fresh-binate}
 use Rattle.job.specs.Machine.{fresh}
+use Rattle.cell.proofs.TableChecked.{kept-stray}
+use Rattle.claims.proofs.FreshJobs.{free-row-false, unate-open, free-found}
 use Rattle.claims.proofs.TrueInputs.{table-distance, table-gate-true}
 use Rattle.claims.proofs.Traces.{traced-total, traced-a, traced-b, traced-from}
 use Rattle.claims.proofs.tables_as_written.Statement.{statement}
@@ -17,12 +19,17 @@ unfolding fresh
 returns c = λ t. record {
   distance-as = table-distance;
   gate-true = table-gate-true;
-  realises = table-realises t;
-  balances = λ count. (λ b. (b .total, b .above, b .inputs), λ b. table-balances t count (b .0) (b .1) (b .2));
+  free-false = λ kept r h free. free-row-false t (kept-stray t kept) r h free;
+  realises = λ ws th. (λ g. g, λ g. g);
+  balances = λ count. (
+    λ b. (b .total, b .above, b .inputs, b .cared),
+    λ b. record { total = b .0; above = b .1; inputs = b .2; cared = b .3 },
+  );
   total = table-total t;
   input-total = table-input-total t;
   turns = table-turns t;
-  fresh-unate = λ e i. record { table = t; state = fresh-open (functionOf t) 0 e (zero-failing t) i };
+  fresh-unate = λ e r h care i. record { table = t; state = unate-open t e r h care i };
+  fresh-free = λ free i. record { table = t; state = free-found t free i };
   fresh-binate = λ place e i. record { table = t; state = fresh-binate (functionOf t) place e i };
   binate-rows = λ few place rise fall binate. table-binate-counts t place few binate rise fall;
   fails-as = table-fails t;

@@ -10,11 +10,6 @@ use prog.Wp.{Heap}
 use ghost.Atoms.{Atoms}
 use types.Kit.{Given}
 use denote.Laws.{Is, Typed}
-use denote.Enum.Declared as E
-use denote.Enum.Enum.{layout}
-use denote.Enum.Laws as EL
-use Rattle.types.proofs.kind.Kind as N
-use Rattle.types.proofs.kind.Kind.Laws as N′
 use Rattle.reading.proofs.kind.KindField as K
 use Rattle.records.proofs.read.RecordField as B
 use Rattle.readers.proofs.reader.Passed as Passed
@@ -42,8 +37,8 @@ abbrev pub kind : Stop
 kind = record {
   plain = Passed.kind;
   name = K.the-type .name;
-  part = layout (E.shape N.the-type);
-  inner = λ k. EL.val N.the-type N′.the-laws (k .kind);
+  part = Passed.said .ty;
+  inner = λ k. Passed.said .val (k .said);
   next = λ k. k .next;
   ty-spelt = refl;
   val-spelt = λ k. refl;

@@ -9,6 +9,7 @@ use mir.Syntax.{w64}
 use borrow.Author.Needs.{needs}
 use borrow.Author.Tests.{eq-eqb, ne-eqb}
 use Rattle.numbers.proofs.Int.{back}
+use Rattle.types.specs.declared.witness.Witness.{Witness}
 use Rattle.table.specs.Table.{rows}
 use Rattle.table.proofs.TableLaws.{rows-le}
 use Rattle.cell.specs.Refusal.{Answered}
@@ -20,9 +21,12 @@ use Rattle.arrays.specs.Arrays.{witnessWith}
 use Rattle.arrays.proofs.given.from_witness.Statement.{statement}
 use Rattle.arrays.proofs.given.from_witness.Tie as tie
 
--- what comes after the rule
-abbrev record-of : tie.Start → Answered (List ℕ)
-record-of s = let a = s .args in writeRecord (ofWitness (a .table) (witnessWith (a .counts .now))) (length (a .out .now))
+-- the record of a witness, and what comes after the rule
+abbrev record-of : tie.Start → Witness → Answered (List ℕ)
+record-of s w = writeRecord (ofWitness (s .args .table) w) (length (s .args .out .now))
+
+abbrev record-with : tie.Start → Answered (List ℕ)
+record-with s = record-of s (witnessWith (s .args .counts .now))
 
 returns : tie.Need-returns
 returns c =
@@ -30,11 +34,10 @@ returns c =
     let s = count .before .before .before in
     let a = s .args in
     let other = ap not (ne-eqb (length (a .counts .now)) (rows (a .table)) (λ e. c .before .if1 .taken (e ∙ sym (count .row-count .ensures)))) in
-    returned-refused (a .out .now) (rule-broken 104 [] (record-of s) other) (back w64 (c .refusal .ok) ∙ c .refusal .ensures)
+    returned-refused (a .out .now) (rule-broken 104 [] (record-with s) other) (back w64 (c .refusal .ok) ∙ c .refusal .ensures)
 
-all-counts-requires : tie.Need-all-counts-requires
-all-counts-requires c κs =
-    omega (arith, c .if1 .left, c .before .row-count .ensures, rows-le (c .before .before .before .before .pre))
+witness-with-requires : tie.Need-witness-with-requires
+witness-with-requires c κs = omega (arith, c .if1 .left, c .before .row-count .ensures, rows-le (c .before .before .before .before .pre))
 
 written-length-requires : tie.Need-written-length-requires
 written-length-requires c κs =
@@ -51,9 +54,8 @@ returns-2 c =
     let s = count .before .before .before in
     let a = s .args in
     let right = ap not (eq-eqb (length (a .counts .now)) (rows (a .table)) (made .before .if1 .left ∙ count .row-count .ensures)) in
-    let by : List ℕ → Answered (List ℕ) = λ cs. writeRecord (ofWitness (a .table) (record { counts = cs })) (length (a .out .now)) in
-    returned-as (a .out .now) (ap by (made .all-counts .ensures) ∙ rule-kept 104 [] (record-of s) right)
-    (returned-written (by (made .all-counts .result)) (a .out .now) (wrote .write-witness .ensures) (back w64 (c .written-length .ok) ∙ c .written-length .ensures))
+    returned-as (a .out .now) (ap (record-of s) (made .witness-with .ensures) ∙ rule-kept 104 [] (record-with s) right)
+    (returned-written (record-of s (made .witness-with .result)) (a .out .now) (wrote .write-witness .ensures) (back w64 (c .written-length .ok) ∙ c .written-length .ensures))
 
 pub from-witness-spec : {M : Type 1} → statement M
 from-witness-spec =
@@ -62,7 +64,7 @@ from-witness-spec =
     (λ c κs. search needs)
     (λ c κs. search needs)
     returns
-    all-counts-requires
+    witness-with-requires
     (λ c κs. search needs)
     written-length-requires
     (λ c. search needs)

@@ -8,6 +8,7 @@ use Rattle.types.specs.declared.vector.Vector.{Vector}
 use Rattle.codec.specs.VectorField.{vectorBytes}
 use Rattle.cell.proofs.TableChecked.{gate-inputs}
 use Rattle.records.specs.Record.{Record, ofGate, bodyBytes}
+use Rattle.bodies.proofs.RecordParts.{gate-cares}
 use Rattle.bodies.proofs.BodyLaws.{body-count, body-most}
 use Rattle.bodies.proofs.body.gate_length.Statement.{statement}
 use Rattle.bodies.proofs.body.gate_length.Tie as tie
@@ -29,4 +30,4 @@ add-result c = let s = c .before .before .before in omega (arith, measured c, bo
 
 pub gate-length-spec : {M : Type 1} → statement M
 gate-length-spec =
-    tie.close (tie.spec (λ c κs. few c) (λ c κs. search needs) (λ c κs. few (c .before .before)) add-result measured)
+    tie.close (tie.spec (λ c κs. (few c, gate-cares (c .args .table) (c .args .gate) (c .pre))) (λ c κs. search needs) (λ c κs. few (c .before .before)) add-result measured)

@@ -6,7 +6,7 @@ use Rattle.table.proofs.TableLaws.{rows-le}
 use Rattle.job.proofs.JobChecked.{kept-sound}
 use Rattle.codec.proofs.NumberLaws.{number-length}
 use Rattle.writing.proofs.TableParts.{table-most}
-use Rattle.cell.proofs.TableChecked.{kept-inputs}
+use Rattle.cell.proofs.TableChecked.{kept-inputs, kept-cares}
 use Rattle.records.specs.Record.{ofJob}
 use Rattle.bodies.proofs.BodyLaws.{job-count, body-count, vector-most, rows-most}
 use Rattle.bodies.proofs.body.job_length.Statement.{statement}
@@ -28,11 +28,16 @@ vectors-small c =
 add-vectors : tie.Need-add-vectors
 add-vectors c = omega (arith, vectors-small c)
 
+table-length-requires : tie.Need-table-length-requires
+table-length-requires c κs =
+    let start = c .before .before .before .before in
+    (few start, kept-cares (start .args .job .table) (start .pre))
+
 -- the table and K
 abbrev start-of : tie.After-number-length → tie.Start
 start-of c = c .before .before .before .before .before .before
 
-numbers-small : (c : tie.After-number-length) → c .before .table-length .result + c .number-length .result ≤ 38
+numbers-small : (c : tie.After-number-length) → c .before .table-length .result + c .number-length .result ≤ 70
 numbers-small c =
     let start = start-of c in
     let j = start .args .job in
@@ -78,7 +83,7 @@ job-length-spec =
     vector-length-requires
     (λ c κs. few (c .before .before .before))
     add-vectors
-    (λ c κs. few (c .before .before .before .before))
+    table-length-requires
     (λ c κs. search needs)
     add-result
     add-result-2

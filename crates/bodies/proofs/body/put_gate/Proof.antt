@@ -5,7 +5,7 @@ use Rattle.table.specs.Gate.{weightLimit}
 use Rattle.job.proofs.SoundLaws.{in-range-search}
 use Rattle.cell.proofs.TableChecked.{gate-inputs}
 use Rattle.records.specs.Record.{Record, ofGate}
-use Rattle.bodies.proofs.RecordParts.{gate-in-limits}
+use Rattle.bodies.proofs.RecordParts.{gate-cares, gate-in-limits}
 use Rattle.bodies.proofs.BodyLaws.{table-room, rest-room, rest-put}
 use Rattle.bodies.proofs.body.put_gate.Statement.{statement}
 use Rattle.bodies.proofs.body.put_gate.Tie as tie
@@ -14,7 +14,10 @@ abbrev x : tie.Start → Record
 x c = ofGate (c .args .table) (c .args .gate)
 
 put-table-requires : tie.Need-put-table-requires
-put-table-requires c κs = let s = c .before .before in (gate-inputs (s .args .table) (s .args .gate) (s .pre .0), table-room (x s) (s .args .out .now) (s .args .at) (s .pre .1))
+put-table-requires c κs =
+    let s = c .before .before in
+    let kept = s .pre .0 in
+    (gate-inputs (s .args .table) (s .args .gate) kept, gate-cares (s .args .table) (s .args .gate) kept, table-room (x s) (s .args .out .now) (s .args .at) (s .pre .1))
 
 put-vector-requires : tie.Need-put-vector-requires
 put-vector-requires c κs =

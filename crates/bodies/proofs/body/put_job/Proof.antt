@@ -12,7 +12,7 @@ use Rattle.codec.specs.RowList.{rowListBytes}
 use Rattle.codec.specs.TableField.{tableBytes}
 use Rattle.codec.specs.Written.{Room, Put}
 use Rattle.codec.proofs.WrittenLaws.{written-room, written-rest, written-next, written-part}
-use Rattle.cell.proofs.TableChecked.{kept-inputs}
+use Rattle.cell.proofs.TableChecked.{kept-inputs, kept-cares}
 use Rattle.records.specs.Record.{numbersBytes}
 use Rattle.bodies.proofs.RecordParts.{savable}
 use Rattle.bodies.proofs.BodyLaws.{fields, job-parts}
@@ -42,7 +42,7 @@ module _ (c : tie.Start) where
 put-table-requires : tie.Need-put-table-requires
 put-table-requires c κs =
     let s = c .before .before .before .before in
-    (few s, omega (arith, room-numbers s, length-append (table s) (numbersBytes (job s))))
+    (few s, kept-cares (job s .table) (s .pre .0), omega (arith, room-numbers s, length-append (table s) (numbersBytes (job s))))
 
 -- after the table
 table-put : (c : tie.After-put-table) → let s = c .before .before .before .before .before in Put (old s) (s .args .at) (table s) (c .put-table .last .0) (c .put-table .result)

@@ -4,7 +4,7 @@ use native.Mathlib.Omega.{arith}
 use lib.ListN.{length}
 use borrow.Author.Needs.{needs}
 use Rattle.table.proofs.TableLaws.{rows-le}
-use Rattle.cell.proofs.TableChecked.{kept-inputs}
+use Rattle.cell.proofs.TableChecked.{kept-inputs, kept-cares}
 use Rattle.records.specs.Record.{Record, ofWitness}
 use Rattle.bodies.proofs.RecordParts.{witness-fits}
 use Rattle.bodies.proofs.BodyLaws.{table-room, rest-room, rest-lent, rest-part}
@@ -18,7 +18,8 @@ few : (c : tie.Start) → c .args .table .n ≤ 8
 few c = kept-inputs (c .args .table) (c .pre .0)
 
 put-table-requires : tie.Need-put-table-requires
-put-table-requires c κs = let s = c .before .before in (few s, table-room (x s) (s .args .out .now) (s .args .at) (s .pre .1))
+put-table-requires c κs =
+    let s = c .before .before in (few s, kept-cares (s .args .table) (s .pre .0), table-room (x s) (s .args .out .now) (s .args .at) (s .pre .1))
 
 -- the row list has room behind the table
 room-rows : (c : tie.After-put-table) → c .put-table .result ≤ length (c .put-table .last .0)

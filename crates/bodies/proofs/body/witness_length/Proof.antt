@@ -4,7 +4,7 @@ use Prim.Native.Nat.{_+_, _≤_}
 use native.Mathlib.Omega.{arith}
 use lib.ListN.{length}
 use Rattle.table.proofs.TableLaws.{rows-le}
-use Rattle.cell.proofs.TableChecked.{kept-inputs}
+use Rattle.cell.proofs.TableChecked.{kept-inputs, kept-cares}
 use Rattle.records.specs.Record.{Record, ofWitness, bodyBytes}
 use Rattle.bodies.proofs.RecordParts.{witness-fits}
 use Rattle.bodies.proofs.BodyLaws.{body-count, body-most}
@@ -33,4 +33,4 @@ add-result c = let s = c .before .before .before .before .before in omega (arith
 
 pub witness-length-spec : {M : Type 1} → statement M
 witness-length-spec =
-    tie.close (tie.spec (λ c κs. few c) (λ c κs. few (c .before .before .before)) rows-length-requires add-result measured)
+    tie.close (tie.spec (λ c κs. (few c, kept-cares (c .args .table) (c .pre))) (λ c κs. few (c .before .before .before)) rows-length-requires add-result measured)

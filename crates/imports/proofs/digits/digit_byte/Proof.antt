@@ -4,8 +4,8 @@ use Prim.Native.Nat.{ℕ, _+_, _-_, _*_, _≤_, _<_}
 use native.Mathlib.Omega.{arith}
 use lib.ListN.{length, getD}
 use borrow.Author.Needs.{needs}
+use Rattle.table.proofs.RowLaws.{whole-bytes, row-byte}
 use Rattle.imports.specs.Imports.{digitValue, digitAt, digitRow}
-use Rattle.imports.proofs.RowLaws.{whole-bytes, row-byte}
 use Rattle.imports.proofs.DigitLaws.{two-digits, one-digit, digit-small}
 use Rattle.imports.proofs.digits.digit_byte.Statement.{statement}
 use Rattle.imports.proofs.digits.digit_byte.Tie as tie

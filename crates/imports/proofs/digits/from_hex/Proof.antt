@@ -1,5 +1,5 @@
 -- `digits::from_hex` meets its contract: its rules in their order, then the table's record. Assumes nothing.
-use mathlib.Core.Path.{_≡_, refl, sym, _∙_, ap, subst}
+use mathlib.Core.Path.{_≡_, refl, sym, _∙_, ap}
 use mathlib.Core.Bool.{true, not}
 use mathlib.Core.List.{List, [], _∷_}
 use Prim.Native.Nat.{ℕ, _+_, _/_, _≤_}
@@ -11,15 +11,16 @@ use borrow.Author.Tests.{le-ltb, lt-ltb, eq-eqb, ne-eqb, not-true, not-false}
 use Rattle.numbers.specs.Tests.{allBelow}
 use Rattle.numbers.proofs.Int.{back}
 use Rattle.types.specs.declared.table.Table.{Table}
+use Rattle.table.specs.Table.{wholeTable}
 use Rattle.table.proofs.TableLaws.{rows-le}
-use Rattle.cell.specs.Refusal.{Rule, Answered, NoneBroken, none, also, here, later}
-use Rattle.cell.specs.Calls.{tooManyInputs, tableRules}
+use Rattle.cell.specs.Refusal.{Rule, Answered, none, also, here, later}
+use Rattle.cell.specs.Calls.{tooManyInputs}
 use Rattle.cell.proofs.RefusalLaws.{first-broken-refused, none-broken-answered}
-use Rattle.records.specs.Record.{ofTable, recordBytes}
-use Rattle.writers.specs.Calls.{fitted}
+use Rattle.records.specs.Record.{ofTable}
+use Rattle.writers.specs.Calls.{writeRecord}
 use Rattle.results.proofs.ResultLaws.{returned-as, returned-refused}
-use Rattle.imports.specs.Imports.{tableRecord, isDigit, digitCount, digitRow, otherDigits, noDigit}
-use Rattle.imports.proofs.RowLaws.{made-kept}
+use Rattle.imports.specs.Imports.{tableWith, tableRecord, isDigit, digitCount, digitRow, otherDigits, noDigit}
+use Rattle.imports.proofs.RowLaws.{made-written}
 use Rattle.imports.proofs.digits.from_hex.Statement.{statement}
 use Rattle.imports.proofs.digits.from_hex.Tie as tie
 
@@ -83,29 +84,31 @@ returns-3 c =
 all : (c : tie.Else3) → let ds = digits (from (c .before .before)) in allBelow (length ds) (isDigit ds) ≡ true
 all c = sym (c .before .all-digits .ensures) ∙ not-false _ (c .if3 .left)
 
-digit-table-requires : tie.Need-digit-table-requires
-digit-table-requires c κs = (narrow (c .before .before), count (c .before .before), all c)
+digit-bytes-requires : tie.Need-digit-bytes-requires
+digit-bytes-requires c κs = (narrow (c .before .before), count (c .before .before), all c)
+
+-- the table is the one of the digits
+made : (c : tie.After-whole-table) → let s = from (c .before .before .before .before) in c .whole-table .result ≡ tableWith (s .args .inputs) (digitRow (digits s))
+made c = c .whole-table .ensures ∙ ap (wholeTable (from (c .before .before .before .before) .args .inputs)) (c .before .digit-bytes .ensures)
 
 put-table-record-requires : tie.Need-put-table-record-requires
 put-table-record-requires c κs =
-    let made = c .before in
-    let past = made .before .before .before in
-    subst (λ (t : Table). NoneBroken (tableRules t [])) (sym (made .digit-table .ensures))
-    (made-kept (from past .args .inputs) (digitRow (digits (from past))) (narrow past))
+    let table = c .before in
+    omega (arith, ap (λ (t : Table). t .n) (made table), narrow (table .before .before .before .before))
 
 returns-4 : tie.Need-returns-4
 returns-4 c =
     let wrote = c .before .before in
-    let made = wrote .before .before in
-    let past = made .before .before .before in
+    let table = wrote .before .before in
+    let past = table .before .before .before .before in
     let s = from past in
     let n = s .args .inputs in
     let old = s .args .out .now in
     let right = ap not (eq-eqb (length (digits s)) (digitCount n) (count past)) in
-    let kept = also (le-ltb 8 n (narrow past)) (also right (also (ap not (all (made .before))) none)) in
-    let table = ap (λ (t : Table). fitted (length old) (recordBytes (ofTable t))) (made .digit-table .ensures) in
+    let kept = also (le-ltb 8 n (narrow past)) (also right (also (ap not (all (table .before .before))) none)) in
+    let record-is = ap (λ (t : Table). writeRecord (ofTable t) (length old)) (made table) ∙ made-written n (digitRow (digits s)) (narrow past) (length old) in
     let (r, b) = wrote .put-table-record .ensures in
-    returned-as old (table ∙ sym (none-broken-answered (rules s) (after s) kept)) (back w64 (wrote .put-table-record .ok) ∙ r, b)
+    returned-as old (record-is ∙ sym (none-broken-answered (rules s) (after s) kept)) (back w64 (wrote .put-table-record .ok) ∙ r, b)
 
 pub from-hex-spec : {M : Type 1} → statement M
 from-hex-spec =
@@ -121,7 +124,8 @@ from-hex-spec =
     (λ c κs. search needs)
     (λ c κs. search needs)
     returns-3
-    digit-table-requires
+    digit-bytes-requires
+    (λ c κs. search needs)
     put-table-record-requires
     (λ c. search needs)
     returns-4)

@@ -8,7 +8,7 @@ use mir.Syntax.{w8}
 use mir.Val.{Fits}
 use borrow.Author.Needs.{needs}
 use Rattle.table.specs.Table.{rowsOf}
-use Rattle.imports.proofs.RowLaws.{all-kept, some-kept}
+use Rattle.table.proofs.RowLaws.{all-kept, some-kept}
 use Rattle.imports.proofs.made.kept_bits.Statement.{statement}
 use Rattle.imports.proofs.made.kept_bits.Tie as tie
 

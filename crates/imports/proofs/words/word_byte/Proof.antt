@@ -4,8 +4,9 @@ use Prim.Native.Nat.{ℕ}
 use native.Mathlib.Omega.{arith}
 use borrow.Author.Needs.{needs}
 use Rattle.numbers.specs.Packed.{bitIn}
+use Rattle.table.proofs.RowLaws.{row-byte}
 use Rattle.imports.specs.Imports.{wordRow}
-use Rattle.imports.proofs.RowLaws.{row-byte, word-row}
+use Rattle.imports.proofs.RowLaws.{word-row}
 use Rattle.imports.proofs.words.word_byte.Statement.{statement}
 use Rattle.imports.proofs.words.word_byte.Tie as tie
 

@@ -87,7 +87,7 @@ returns c =
     let v = head .before .before .before .before .args .v in
     let last : head .loop .place ≡ 8 = omega arith in
     let is : head .loop .sum ≡ magnitude v = rw (last, first-size (head .before)) at (head .loop .inv .1) in
-    ap (λ (x : ℕ). leb x 14000) is
+    ap (λ (x : ℕ). leb x 9000) is
 
 pub is-small-spec : {M : Type 1} → statement M
 is-small-spec =

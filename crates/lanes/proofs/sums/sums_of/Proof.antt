@@ -29,11 +29,11 @@ Inv-loop a sums₀ first place₀ sums place = (place ≤ 8) × SumsTo a (pos 0 
 abbrev μ-loop : tie.MeasureT-loop
 μ-loop a sums₀ first place₀ sums place = 8 - place
 
--- a number of at most 32,000 is cast from 32 bits to 16 and read back
-cast-fits : (z : ℤ) → natAbs z ≤ 32000 → SFits w16 (toZ w32 (ofZ w32 z))
+-- a number of at most 16,000 is cast from 32 bits to 16 and read back
+cast-fits : (z : ℤ) → natAbs z ≤ 16000 → SFits w16 (toZ w32 (ofZ w32 z))
 cast-fits z h = rw (toZ-ofZ (size-fits {w = w32} {z = z} (omega (arith, natAbs-parts z)))) (size-fits (omega (arith, natAbs-parts z)))
 
-cast-read : (z : ℤ) → natAbs z ≤ 32000 → toZ w16 (ofZ w16 (toZ w32 (ofZ w32 z))) ≡ z
+cast-read : (z : ℤ) → natAbs z ≤ 16000 → toZ w16 (ofZ w16 (toZ w32 (ofZ w32 z))) ≡ z
 cast-read z h = toZ-ofZ (cast-fits z h) ∙ toZ-ofZ (size-fits (omega (arith, natAbs-parts z)))
 
 -- ---- row 0
@@ -46,7 +46,7 @@ threshold-read : (c : tie.After-struct-told Inv-loop μ-loop) → toZ w32 (ofZ w
 threshold-read c = toZ-ofZ (search needs)
 
 -- the distance of row 0 is as large as b
-first-size : (c : tie.After-struct-told Inv-loop μ-loop) → natAbs (pos 0 -ℤ vector c .b) ≤ 32000
+first-size : (c : tie.After-struct-told Inv-loop μ-loop) → natAbs (pos 0 -ℤ vector c .b) ≤ 16000
 first-size c =
     let b = vector c .b in
     let small = c .before .before .before .pre .1 in
@@ -86,7 +86,7 @@ sums-so-far c = rw (threshold-is (c .before)) at (c .loop .inv .1)
 abbrev weight : tie.At-loop Inv-loop μ-loop → ℤ
 weight c = getD (vector (c .before) .a) (c .loop .place) (pos 0)
 
-small : (c : tie.In-loop Inv-loop μ-loop) → natAbs (weight (c .before)) ≤ 32000
+small : (c : tie.In-loop Inv-loop μ-loop) → natAbs (weight (c .before)) ≤ 16000
 small c =
     let head = c .before in
     let limit = head .before .before .before .before .pre .1 in
@@ -112,7 +112,7 @@ double-requires c κs =
     let half : 2 ^ head .loop .place ≤ 16 = pow-mono {j = 4} (omega arith) in
     rw (low-shift branch, weight-read (branch .before)) (
       (sums-so-far head .size, omega arith),
-      λ at l. omega (arith, low-made _ 32000 (pre .0) (pre .1) _ _ at (branch .if1 .taken) (sums-so-far head) l),
+      λ at l. omega (arith, low-made _ 16000 (pre .0) (pre .1) _ _ at (branch .if1 .taken) (sums-so-far head) l),
     )
 
 low-next : (c : tie.After-double Inv-loop μ-loop)
@@ -142,7 +142,7 @@ double-requires-2 c κs =
     rw (high-shift branch, weight-read (branch .before)) (
       (sums-so-far head .size, omega arith),
       λ at l.
-          omega (arith, high-made _ 32000 (pre .0) (pre .1) _ _ at (branch .if1 .left) (branch .before .loop-test .taken) (sums-so-far head) l),
+          omega (arith, high-made _ 16000 (pre .0) (pre .1) _ _ at (branch .if1 .left) (branch .before .loop-test .taken) (sums-so-far head) l),
     )
 
 high-next : (c : tie.After-double2 Inv-loop μ-loop)

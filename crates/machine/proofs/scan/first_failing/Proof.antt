@@ -29,53 +29,54 @@ use Rattle.machine.proofs.scan.first_failing.Statement.{statement}
 use Rattle.machine.proofs.scan.first_failing.Tie as tie
 
 abbrev Inv-loop : tie.InvT-loop
-Inv-loop distances₀ values v first n place₀ distances place =
+Inv-loop distances₀ cares values v first n place₀ distances place =
     (place ≤ n)
-    × ((r : ℕ) → r < 2 ^ place → failsAt values (rowDistance (v .a) (v .b)) r ≡ false)
+    × ((r : ℕ) → r < 2 ^ place → failsAt cares values (rowDistance (v .a) (v .b)) r ≡ false)
     × (length distances ≡ 256 → Holds (rowDistance (v .a) (v .b)) (2 ^ place) distances)
 
 abbrev μ-loop : tie.MeasureT-loop
-μ-loop distances₀ values v first n place₀ distances place = n - place
+μ-loop distances₀ cares values v first n place₀ distances place = n - place
 
 -- ---- the vector
 
-range : (c : tie.Start Inv-loop μ-loop) → InRange weightLimit 8 (c .args .t4 .a) (c .args .t4 .b)
-range c = in-range-correct weightLimit 8 (c .args .t4 .a) (c .args .t4 .b) .0 (c .pre .1)
+range : (c : tie.Start Inv-loop μ-loop) → InRange weightLimit 8 (c .args .t5 .a) (c .args .t5 .b)
+range c = in-range-correct weightLimit 8 (c .args .t5 .a) (c .args .t5 .b) .0 (c .pre .0 .1)
 
 -- the distance of a row, and its size
 abbrev away : tie.Start Inv-loop μ-loop → ℕ → ℤ
-away c = rowDistance (c .args .t4 .a) (c .args .t4 .b)
+away c = rowDistance (c .args .t5 .a) (c .args .t5 .b)
 
 away-size : (c : tie.Start Inv-loop μ-loop) (r : ℕ) → up (away c r) + dn (away c r) ≤ 9 * weightLimit
-away-size c r = distance-size weightLimit 8 (c .args .t4 .a) (c .args .t4 .b) r (search needs) (range c)
+away-size c r = distance-size weightLimit 8 (c .args .t5 .a) (c .args .t5 .b) r (search needs) (range c)
 
 -- ---- row 0
 
-threshold-fits : (c : tie.Start Inv-loop μ-loop) → SFits w32 (c .args .t4 .b)
-threshold-fits c = size-fits (omega (arith, natAbs-parts (c .args .t4 .b), range c .threshold))
+threshold-fits : (c : tie.Start Inv-loop μ-loop) → SFits w32 (c .args .t5 .b)
+threshold-fits c = size-fits (omega (arith, natAbs-parts (c .args .t5 .b), range c .threshold))
 
 -- what the code takes from 0 is the row's distance
-first-away : (c : tie.Start Inv-loop μ-loop) → pos 0 -ℤ toZ w32 (ofZ w32 (c .args .t4 .b)) ≡ away c 0
-first-away c = ap (λ (z : ℤ). pos 0 -ℤ z) (toZ-ofZ (threshold-fits c)) ∙ sym (distance-zero (c .args .t4 .a) (c .args .t4 .b))
+first-away : (c : tie.Start Inv-loop μ-loop) → pos 0 -ℤ toZ w32 (ofZ w32 (c .args .t5 .b)) ≡ away c 0
+first-away c = ap (λ (z : ℤ). pos 0 -ℤ z) (toZ-ofZ (threshold-fits c)) ∙ sym (distance-zero (c .args .t5 .a) (c .args .t5 .b))
 
 sub-first : tie.Need-sub-first Inv-loop μ-loop
 sub-first c = rw (first-away (c .before)) (size-fits (omega (arith, away-size (c .before) 0)))
 
 cast-fails-by : tie.Need-cast-fails-by Inv-loop μ-loop
-cast-fails-by c = wide-fits tt (sub-first (c .before))
+cast-fails-by c = wide-fits tt (sub-first (c .before .before))
 
 -- what is tested is whether the row fails
 first-fails : (c : tie.After-fails-by Inv-loop μ-loop)
-    → let start = c .before .before .before in c .fails-by .result ≡ failsAt (start .args .values .now) (away start) 0
+    → let start = c .before .before .before .before in
+    c .fails-by .result ≡ failsAt (start .args .cares .now) (start .args .values .now) (away start) 0
 first-fails c =
-    let told = c .before .before in
-    fails-at-test _ _ _ (c .fails-by .ensures) (wide-back w64 tt (sub-first told) ∙ first-away (told .before))
+    let told = c .before .before .before in
+    fails-at-test _ _ _ _ (c .fails-by .ensures) (wide-back w64 tt (sub-first told) ∙ first-away (told .before))
 
 returns : tie.Need-returns Inv-loop μ-loop
 returns c =
-    let start = c .before .before .before .before in
+    let start = c .before .before .before .before .before in
     let a = start .args in
-    scan-row (a .table) (a .t4) (a .values .now) (start .pre .0) (start .pre .2) 1 0 (pow-pos (a .table .n))
+    scan-row (a .table) (a .t5) (a .cares .now) (a .values .now) (start .pre .0 .0) (start .pre .1) 1 0 (pow-pos (a .table .n))
     record {
       start = omega arith;
       inside = omega arith;
@@ -85,7 +86,7 @@ returns c =
 
 loop-holds : tie.Need-loop-holds Inv-loop μ-loop
 loop-holds c =
-    let told = c .before .before .before .before in
+    let told = c .before .before .before .before .before in
     let room = told .before .args .distances .now in (
       omega arith,
       λ r l. let zero : r ≡ 0 = omega arith in rw zero (sym (first-fails (c .before .before)) ∙ c .before .if1 .left),
@@ -98,7 +99,7 @@ loop-holds c =
 
 -- the function's start, and the place of a pass, as the room is lent
 abbrev start : tie.After-search-block-arg Inv-loop μ-loop → tie.Start Inv-loop μ-loop
-start c = c .before .before .before .before .before .before .before .before
+start c = c .before .before .before .before .before .before .before .before .before
 
 abbrev place : tie.After-search-block-arg Inv-loop μ-loop → ℕ
 place c = c .before .before .loop .place
@@ -111,7 +112,7 @@ room-length : (c : tie.After-search-block-arg Inv-loop μ-loop) → length (room
 room-length c = c .search-block-arg .given .0 .1
 
 -- the rows below 2 ^ `place` are passed
-passed : (c : tie.After-search-block-arg Inv-loop μ-loop) → Passed (start c .args .values .now) (away (start c)) 0 (2 ^ place c) (room c)
+passed : (c : tie.After-search-block-arg Inv-loop μ-loop) → Passed (start c .args .cares .now) (start c .args .values .now) (away (start c)) 0 (2 ^ place c) (room c)
 passed c = let inv = c .before .before .loop .inv in record { holds = inv .2 (room-length c); none-fails = λ r g l. inv .1 r l }
 
 -- the numbers of the block, as the code makes them
@@ -119,7 +120,7 @@ half-is : (c : tie.After-search-block-arg Inv-loop μ-loop) → 1 * 2 ^ place c 
 half-is c = one-shifted (place c) (omega arith)
 
 abbrev weight : tie.After-search-block-arg Inv-loop μ-loop → ℤ
-weight c = getD (start c .args .t4 .a) (place c) (pos 0)
+weight c = getD (start c .args .t5 .a) (place c) (pos 0)
 
 weight-is : (c : tie.After-search-block-arg2 Inv-loop μ-loop) → toZ w32 (ofZ w32 (weight (c .before))) ≡ weight (c .before)
 weight-is c = toZ-ofZ (record { sfits = c .search-block-arg2 .given })
@@ -137,7 +138,7 @@ search-block-requires c κs =
 -- what the search of the block answers
 block-answer : (c : tie.After-search-block Inv-loop μ-loop)
     → let lent = c .before .before in
-    c .search-block .result ≡ lowestOf (blockSearch (start lent .args .values .now) (start lent .args .t4 .a) (place lent) (room lent))
+    c .search-block .result ≡ lowestOf (blockSearch (start lent .args .cares .now) (start lent .args .values .now) (start lent .args .t5 .a) (place lent) (room lent))
 block-answer c = rw (half-is (c .before .before), weight-is (c .before)) at (c .search-block .ensures .0)
 
 returns-2 : tie.Need-returns-2 Inv-loop μ-loop
@@ -147,21 +148,21 @@ returns-2 c =
     let pre = start lent .pre in
     let a = start lent .args in
     let answer = sym (block-answer call) ∙ c .before .block .given .1 in
-    scan-row (a .table) (a .t4) (a .values .now) (pre .0) (pre .2) (2 ^ suc (place lent)) _ (pow-mono (omega arith))
-    (block-row (a .t4 .a) (a .t4 .b) (a .values .now) (place lent) (room lent) (passed lent) _ answer)
+    scan-row (a .table) (a .t5) (a .cares .now) (a .values .now) (pre .0 .0) (pre .1) (2 ^ suc (place lent)) _ (pow-mono (omega arith))
+    (block-row (a .t5 .a) (a .t5 .b) (a .cares .now) (a .values .now) (place lent) (room lent) (passed lent) _ answer)
 
 -- where nothing is found in the block, twice as many rows are passed
 passed-next : (c : tie.After-enum-told Inv-loop μ-loop)
     → let call = c .before .before in
     let lent = call .before .before in
-    Passed (start lent .args .values .now) (away (start lent)) 0 (2 ^ suc (place lent)) (call .search-block .last .0)
+    Passed (start lent .args .cares .now) (start lent .args .values .now) (away (start lent)) 0 (2 ^ suc (place lent)) (call .search-block .last .0)
 passed-next c =
     let call = c .before .before in
     let lent = call .before .before in
     let a = start lent .args in
     let nowhere = c .enum-told .given .1 in
     let stored = (rw (half-is lent, weight-is (call .before)) at (call .search-block .ensures .1)) nowhere in
-    block-passed (a .t4 .a) (a .t4 .b) (a .values .now) (place lent) (room lent) (passed lent) (call .search-block .last .0)
+    block-passed (a .t5 .a) (a .t5 .b) (a .cares .now) (a .values .now) (place lent) (room lent) (passed lent) (call .search-block .last .0)
     (sym (block-answer call) ∙ nowhere) (λ r l. stored r (omega arith))
 
 loop-again : tie.Need-loop-again Inv-loop μ-loop
@@ -173,9 +174,9 @@ loop-again c =
 returns-3 : tie.Need-returns-3 Inv-loop μ-loop
 returns-3 c =
     let at-end = c .before .loop in
-    let start = c .before .before .before .before .before .before .before in
+    let start = c .before .before .before .before .before .before .before .before in
     let a = start .args in
-    scan-nowhere (a .table) (a .t4) (a .values .now) (start .pre .0) (start .pre .2)
+    scan-nowhere (a .table) (a .t5) (a .cares .now) (a .values .now) (start .pre .0 .0) (start .pre .1)
     (λ r l. at-end .inv .1 r (lt-of-lt-of-le l (pow-mono (c .loop-test .left))))
 
 pub first-failing-spec : {M : Type 1} → statement M
@@ -185,6 +186,7 @@ first-failing-spec =
     Inv-loop
     μ-loop
     sub-first
+    (λ c. search needs)
     (λ c. search needs)
     cast-fails-by
     (λ c κs. search needs)

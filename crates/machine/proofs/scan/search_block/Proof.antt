@@ -23,11 +23,11 @@ use Rattle.machine.proofs.scan.search_block.Statement.{statement}
 use Rattle.machine.proofs.scan.search_block.Tie as tie
 
 abbrev Inv-loop : tie.InvT-loop
-Inv-loop distances₀ values half weight at₀ distances at =
-    (at ≤ half) × (length distances ≡ length distances₀) × Passed values (doubled half (toZ w32 weight) distances₀) half (half + at) distances
+Inv-loop distances₀ cares values half weight at₀ distances at =
+    (at ≤ half) × (length distances ≡ length distances₀) × Passed cares values (doubled half (toZ w32 weight) distances₀) half (half + at) distances
 
 abbrev μ-loop : tie.MeasureT-loop
-μ-loop distances₀ values half weight at₀ distances at = half - at
+μ-loop distances₀ cares values half weight at₀ distances at = half - at
 
 loop-holds : tie.Need-loop-holds Inv-loop μ-loop
 loop-holds c = (
@@ -80,21 +80,22 @@ sum-made c =
     ap (λ (z : ℤ). z +ℤ added (start c)) (toZ-ofZ (below-fits c) ∙ below-kept c) ∙ sym (doubled-high _ _ _ (c .before .before .loop .at))
 
 cast-fails-by : tie.Need-cast-fails-by Inv-loop μ-loop
-cast-fails-by c = wide-fits tt (add-distance (c .before))
+cast-fails-by c = wide-fits tt (add-distance (c .before .before))
 
 -- what is tested is whether the row fails
 row-fails : (c : tie.After-fails-by Inv-loop μ-loop)
-    → let round = c .before .before in c .fails-by .result ≡ failsAt (start round .args .values .now) (made (start round)) (row round)
+    → let round = c .before .before .before in
+    c .fails-by .result ≡ failsAt (start round .args .cares .now) (start round .args .values .now) (made (start round)) (row round)
 row-fails c =
-    let round = c .before .before in
-    fails-at-test _ _ _ (c .fails-by .ensures) (wide-back w64 tt (add-distance round) ∙ sum-made round)
+    let round = c .before .before .before in
+    fails-at-test _ _ _ _ (c .fails-by .ensures) (wide-back w64 tt (add-distance round) ∙ sum-made round)
 
 -- the contract's distances and search
 made-is : (c : tie.Start Inv-loop μ-loop) → made c ≡ doubled (c .args .half) (c .args .weight) (c .args .distances .now)
 made-is c = ap (λ (z : ℤ). doubled (c .args .half) z (c .args .distances .now)) (toZ-ofZ (c .fits .weight))
 
 abbrev search-by : tie.Start Inv-loop μ-loop → (ℕ → ℤ) → Option ℕ
-search-by c d = firstFrom (failsAt (c .args .values .now) d) (c .args .half) (c .args .half)
+search-by c d = firstFrom (failsAt (c .args .cares .now) (c .args .values .now) d) (c .args .half) (c .args .half)
 
 search-is : (c : tie.Start Inv-loop μ-loop) {o : Option ℕ} → search-by c (made c) ≡ o
     → lowestOf o ≡ lowestOf (search-by c (doubled (c .args .half) (c .args .weight) (c .args .distances .now)))
@@ -102,10 +103,10 @@ search-is c e = ap lowestOf (sym e ∙ ap (search-by c) (made-is c))
 
 returns : tie.Need-returns Inv-loop μ-loop
 returns c =
-    let round = c .before .before .before in
+    let round = c .before .before .before .before in
     let a = start round .args in (
       search-is (start round)
-          (first-at (failsAt (a .values .now) (made (start round))) (a .half) (a .half) (row round)
+          (first-at (failsAt (a .cares .now) (a .values .now) (made (start round))) (a .half) (a .half) (row round)
           record {
             start = omega arith;
             inside = omega arith;
@@ -117,14 +118,14 @@ returns c =
 
 loop-again : tie.Need-loop-again Inv-loop μ-loop
 loop-again c =
-    let round = c .before .before .before in
+    let round = c .before .before .before .before in
     let at-head = round .before .before .loop in
     let a = start round .args in
     let passes = sym (row-fails (c .before)) ∙ c .if1 .left in (
       omega arith,
       simp length-set (at-head .inv .1),
       rw (← add-assoc (a .half) (at-head .at) 1)
-          (passed-more (a .values .now) (made (start round)) (a .half) (row round) (at-head .distances) _
+          (passed-more (a .cares .now) (a .values .now) (made (start round)) (a .half) (row round) (at-head .distances) _
           (omega arith) (toZ-ofZ (add-distance round) ∙ sum-made round) passes (at-head .inv .2)),
     )
 
@@ -134,7 +135,7 @@ returns-2 c =
     let entry = c .before .before in
     let a = entry .args in (
       search-is entry
-          (first-fails (failsAt (a .values .now) (made entry)) (a .half) (a .half) (λ r g l. passed .none-fails r g (omega arith))),
+          (first-fails (failsAt (a .cares .now) (a .values .now) (made entry)) (a .half) (a .half) (λ r g l. passed .none-fails r g (omega arith))),
       λ e r l. passed .holds r (omega arith) ∙ ap (λ (d : ℕ → ℤ). d r) (made-is entry),
     )
 
@@ -149,6 +150,7 @@ search-block-spec =
     (λ c. search needs)
     (λ c. search needs)
     add-distance
+    (λ c. search needs)
     (λ c. search needs)
     (λ c. search needs)
     (λ c. search needs)

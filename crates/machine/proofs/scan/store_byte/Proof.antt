@@ -8,8 +8,9 @@ use native.Mathlib.Nat.{add-assoc, add-zero}
 use native.Mathlib.Omega.{arith}
 use borrow.Author.Needs.{needs}
 use lib.ListN.{set}
+use Rattle.table.proofs.RowLaws.{byte-bit}
 use Rattle.machine.specs.Scan.{valuesBelow}
-use Rattle.machine.proofs.ValueLaws.{byte-bit, values-more, values-skip}
+use Rattle.machine.proofs.ValueLaws.{values-more, values-skip}
 use Rattle.machine.proofs.scan.store_byte.Statement.{statement}
 use Rattle.machine.proofs.scan.store_byte.Tie as tie
 

@@ -9,7 +9,7 @@ use Rattle.numbers.proofs.Int.{back}
 use Rattle.cell.specs.Refusal.{Answered, answered, andThen}
 use Rattle.job.specs.declared.job.Job.{Job}
 use Rattle.job.specs.Calls.{carryOn}
-use Rattle.outcome.specs.Outcome.{handedBack}
+use Rattle.outcome.specs.Outcome.{outcomeWritten, handedBack}
 use Rattle.outcome.proofs.HandedLaws.{handed-as, handed-refused}
 use Rattle.outcome.proofs.DecidedLaws.{carried-refused, carried-done, carried-handed, carried-kept}
 use Rattle.outcome.proofs.handed.carry_job.Statement.{statement}
@@ -61,7 +61,7 @@ returns-2 c =
     let wrote = c .before .before in
     let done = wrote .before .before .before .before in
     let at = done .before .before in
-    let handed = carried-handed (job at) (call at) (at .carry-on .ensures) (length (old at)) (done .enum-told .given .1) in
+    let handed = carried-handed (job at) (call at) (at .carry-on .ensures) (outcomeWritten (length (old at))) (done .enum-told .given .1) in
     let ((r, b), made) = wrote .put-outcome .ensures in
     handed-as (old at) (held at) handed ((back w64 (wrote .put-outcome .ok) ∙ r, b), made)
 

@@ -13,7 +13,7 @@ use Rattle.job.specs.Calls.{jobRules}
 use Rattle.records.specs.Record.{recordBytes}
 use Rattle.writers.specs.Calls.{tooShort}
 use Rattle.results.proofs.ResultLaws.{checked-short, returned-as, returned-written}
-use Rattle.outcome.specs.Outcome.{jobOf, outcome, outcomeWritten}
+use Rattle.outcome.specs.Outcome.{jobOf, outcome, uncarried, outcomeWritten}
 use Rattle.outcome.proofs.DecidedLaws.{fresh-job-kept}
 use Rattle.outcome.proofs.OutcomeLaws.{outcome-most}
 use Rattle.outcome.proofs.handed.fresh_job.Statement.{statement}
@@ -40,7 +40,7 @@ written-length-requires c κs =
     let s = made .before .before in
     let j = jobOf (s .args .table) (made .fresh-state .result) in
     let room = length (s .args .out .now) in
-    checked-short (tooShort room (recordBytes (outcome j)) ∷ []) (recordBytes (outcome j)) (outcome-most j (kept-inputs (s .args .table) (s .pre)))
+    checked-short (uncarried (j .state .stage) (j .table) ∷ tooShort room (recordBytes (outcome j)) ∷ []) (recordBytes (outcome j)) (outcome-most j (kept-inputs (s .args .table) (s .pre)))
     (wrote .write-outcome .ensures .0)
 
 returns : tie.Need-returns

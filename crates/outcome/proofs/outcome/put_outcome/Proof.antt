@@ -1,7 +1,7 @@
 -- `outcome::put_outcome` meets its contract: the length is at most 2,048, so it is a signed number of 64 bits; the corrections are handed
 -- over where the bytes are. Assumes nothing.
 use mathlib.Core.Path.{_≡_, sym, _∙_, ap}
-use mathlib.Core.List.{List}
+use mathlib.Core.List.{List, [], _∷_}
 use Prim.Native.Nat.{ℕ, _≤_}
 use native.Mathlib.Omega.{arith}
 use lib.ListN.{length}
@@ -17,11 +17,11 @@ use Rattle.cell.proofs.TableChecked.{kept-inputs}
 use Rattle.job.specs.declared.job.Job.{Job}
 use Rattle.writers.specs.declared.write.Written.the-variants as Written′
 use Rattle.records.specs.Record.{recordBytes}
-use Rattle.writers.specs.Calls.{written}
-use Rattle.writers.proofs.WriteLaws.{written-refused, fitted-length}
-use Rattle.results.specs.Result.{asResult, measured}
-use Rattle.results.proofs.ResultLaws.{measured-length}
-use Rattle.outcome.specs.Outcome.{jobOf, outcome, outcomeWritten}
+use Rattle.writers.specs.Calls.{tooShort, written}
+use Rattle.writers.proofs.WriteLaws.{written-refused}
+use Rattle.results.specs.Result.{asResult, measured, lengthBy}
+use Rattle.results.proofs.ResultLaws.{checked-short, measured-length}
+use Rattle.outcome.specs.Outcome.{jobOf, outcome, uncarried, outcomeWritten}
 use Rattle.outcome.proofs.HandedLaws.{handed-with, made-handed, made-held}
 use Rattle.outcome.proofs.OutcomeLaws.{outcome-most}
 use Rattle.outcome.proofs.outcome.put_outcome.Statement.{statement}
@@ -53,8 +53,9 @@ module _ (c : tie.After-answer) where
   small : c .answer .given .0 .0 ≤ 2048
   small =
       let s = start wrote in
-      let most = outcome-most (job wrote) (kept-inputs (s .args .table) (s .pre)) in
-      omega (arith, fitted-length (length (s .args .out .now)) (bytes wrote) length-known, most)
+      let rules = uncarried (s .args .state .stage) (s .args .table) ∷ tooShort (length (s .args .out .now)) (bytes wrote) ∷ [] in
+      checked-short rules (bytes wrote) (outcome-most (job wrote) (kept-inputs (s .args .table) (s .pre))) (wrote .write-outcome .ensures .0)
+      (c .answer .given .0 .0) (ap lengthBy (c .answer .given .1))
 
 cast-result : tie.Need-cast-result
 cast-result c = size-fits (omega (arith, small (c .before)))

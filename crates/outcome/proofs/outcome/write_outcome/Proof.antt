@@ -1,4 +1,4 @@
--- `outcome::write_outcome` meets its contract: by the stage one of the writers, which refuses for its room alone. Assumes nothing.
+-- `outcome::write_outcome` meets its contract: by the stage one of the writers, which refuses with 16 and 12 alone. Assumes nothing.
 use mathlib.Core.Path.{_≡_, _∙_, ap}
 use mathlib.Core.List.{List}
 use Prim.Native.Nat.{ℕ}

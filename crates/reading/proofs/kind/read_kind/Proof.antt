@@ -1,5 +1,5 @@
 -- `reading::kind::read_kind` meets its contract: a byte is there, and it stands for a kind that is taken. Assumes nothing.
-use mathlib.Core.Path.{_≡_, _∙_, ap, subst}
+use mathlib.Core.Path.{_≡_, _∙_, ap}
 use mathlib.Core.List.{List}
 use Prim.Native.Nat.{ℕ, _+_, _≤_, _<_}
 use native.Mathlib.Omega.{arith}
@@ -8,17 +8,17 @@ use borrow.Author.Needs.{needs}
 use borrow.Author.Tests.{lt-ltb, le-ltb}
 use Rattle.cell.specs.Refusal.{Answered, answered, refused, andThen}
 use Rattle.codec.specs.Field.{field}
-use Rattle.codec.specs.Kind.{Family, familyIn, kindAt}
-use Rattle.reading.specs.Fields.{asKind, familyOf, takenBy, kindField}
-use Rattle.reading.proofs.FieldFacts.{family-is, Whole, whole-family}
+use Rattle.codec.specs.Kind.{Head, headIn, kindAt}
+use Rattle.reading.specs.Fields.{kindByte, headOf, takenBy, kindField}
+use Rattle.reading.proofs.FieldFacts.{head-is, head-refused, head-whole}
 use Rattle.reading.proofs.kind.read_kind.Statement.{statement}
 use Rattle.reading.proofs.kind.read_kind.Tie as tie
 
-module _ (takes : List Family) (s : List ℕ) (at : ℕ) where
+module _ (takes : List Head) (s : List ℕ) (at : ℕ) where
   kind-none : length s ≤ at → refused 1 ≡ kindAt takes s at
   kind-none h = rw (lt-ltb (length s) (at + 1) (omega arith))
 
-  kind-some : at < length s → (r : Answered Family) → familyIn takes (getD s at 0) ≡ r → andThen r (λ f. answered (field f (at + 1))) ≡ kindAt takes s at
+  kind-some : at < length s → (r : Answered Head) → headIn takes (getD s at 0) ≡ r → andThen r (λ f. answered (field f (at + 1))) ≡ kindAt takes s at
   kind-some h r e = rw (le-ltb (length s) (at + 1) (omega arith), e)
 
 returns : tie.Need-returns
@@ -30,25 +30,26 @@ module _ (c : tie.After-taken-kind) where
   abbrev start : tie.Start
   start = c .before .before .before .before
 
-  abbrev found : Answered Family
-  found = let a = start .args in familyIn (takenBy (a .takes)) (getD (a .bytes .now) (a .at) 0)
+  abbrev found : Answered Head
+  found = let a = start .args in headIn (takenBy (a .takes)) (getD (a .bytes .now) (a .at) 0)
 
-  read : (r : Answered Family) → found ≡ r → let a = start .args in andThen r (λ f. answered (field f (a .at + 1))) ≡ kindAt (takenBy (a .takes)) (a .bytes .now) (a .at)
+  read : (r : Answered Head) → found ≡ r → let a = start .args in andThen r (λ f. answered (field f (a .at + 1))) ≡ kindAt (takenBy (a .takes)) (a .bytes .now) (a .at)
   read r e = let a = start .args in kind-some (takenBy (a .takes)) (a .bytes .now) (a .at) (c .before .before .if1 .left) r e
 
 returns-2 : tie.Need-returns-2
 returns-2 c =
     let known = c .before .before in
     let at = known .before .before in
-    let number = family-is (found at) (at .taken-kind .ensures) ∙ ap familyOf (known .kind .given .1) in
+    let number = head-is (found at) (at .taken-kind .ensures) ∙ head-refused (at .taken-kind .result) (known .kind .given .1) in
     c .no-kind2 .ensures ∙ ap kindField (read at _ number)
 
 returns-3 : tie.Need-returns-3
 returns-3 c =
     let at = c .before in
-    let (f, is) = whole-family (found at) (subst Whole (at .taken-kind .ensures) (c .match .keys2)) in
-    let kind : at .taken-kind .result ≡ asKind (answered f) = at .taken-kind .ensures ∙ ap asKind is in
-    (λ i. record { kind = kind i; next = start at .args .at + 1 }) ∙ ap kindField (read at _ is)
+    let (h, says, same) = head-whole (at .taken-kind .result) (c .match .keys2) in
+    let is = head-is (found at) (at .taken-kind .ensures) ∙ says in
+    let said = at .taken-kind .ensures ∙ ap kindByte is in
+    (λ i. record { said = said i; next = start at .args .at + 1 }) ∙ ap kindField (read at _ is)
 
 pub read-kind-spec : {M : Type 1} → statement M
 read-kind-spec = tie.close (tie.spec (λ c κs. search needs) returns (λ c. search needs) (λ c κs. search needs) (λ c. search needs) (λ c κs. search needs) returns-2 (λ c. search needs) returns-3)

@@ -1,27 +1,21 @@
--- `reading::kind::taken_kind` meets its contract: a caller takes every kind, or that of a table alone. Assumes nothing.
+-- `reading::kind::taken_kind` meets its contract: a caller takes every kind, or those of a table alone. Assumes nothing.
 use mathlib.Core.Path.{sym, _∙_, ap}
 use borrow.Author.Needs.{needs}
-use borrow.Author.Tests.{ne-eqb}
-use Rattle.codec.specs.Kind.{familyIn}
+use Rattle.codec.specs.Kind.{headIn}
 use Rattle.reading.specs.declared.kind.Takes.{Takes}
-use Rattle.reading.specs.Fields.{asKind, takenBy}
+use Rattle.reading.specs.Fields.{kindByte, takenBy}
 use Rattle.reading.proofs.kind.taken_kind.Statement.{statement}
 use Rattle.reading.proofs.kind.taken_kind.Tie as tie
 
 returns : tie.Need-returns
 returns c =
     let a = c .before .before .before .args in
-    c .any-kind .ensures ∙ ap (λ (takes : Takes). asKind (familyIn (takenBy takes) (a .byte))) (sym (c .before .enum-told .given .1))
+    c .any-kind .ensures ∙ ap (λ (takes : Takes). kindByte (headIn (takenBy takes) (a .byte))) (sym (c .before .enum-told .given .1))
 
 returns-2 : tie.Need-returns-2
-unfolding familyIn
-returns-2 c = rw (c .before .enum-told2 .given .1, c .if1 .taken)
-
-returns-3 : tie.Need-returns-3
-unfolding familyIn
-returns-3 c =
-    let byte = c .before .before .before .args .byte in
-    rw (c .before .enum-told2 .given .1, ne-eqb byte 1 (c .if1 .left))
+returns-2 c =
+    let a = c .before .before .before .args in
+    c .table-kind .ensures ∙ ap (λ (takes : Takes). kindByte (headIn (takenBy takes) (a .byte))) (sym (c .before .enum-told2 .given .1))
 
 pub taken-kind-spec : {M : Type 1} → statement M
-taken-kind-spec = tie.close (tie.spec (λ c. search needs) (λ c κs. search needs) (λ c. search needs) returns returns-2 returns-3)
+taken-kind-spec = tie.close (tie.spec (λ c. search needs) (λ c κs. search needs) (λ c. search needs) (λ c κs. search needs) returns returns-2)

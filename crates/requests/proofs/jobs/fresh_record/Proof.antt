@@ -14,7 +14,7 @@ use mathlib.Core.List.{List}
 use Prim.Native.Nat.{ℕ}
 use Rattle.job.specs.Machine.{fresh}
 use Rattle.outcome.specs.Outcome.{outcomeWritten}
-use Rattle.requests.proofs.TakenLaws.{not-of, of-family, table-kept-read}
+use Rattle.requests.proofs.TakenLaws.{not-of, of-family, read-kept}
 use Rattle.requests.proofs.jobs.fresh_record.Statement.{statement}
 use Rattle.requests.proofs.jobs.fresh_record.Tie as tie
 
@@ -39,8 +39,8 @@ fresh-job-requires : tie.Need-fresh-job-requires
 fresh-job-requires c κs =
     let told = c .before in
     let given = told .before .before in
-    table-kept-read (given .before .before .before .args .bytes .now) (given .read .ensures)
-    (λ i h. omega (arith, given .before .before .shared-slice-known .given i)) (told .enum-told .given .1)
+    read-kept (given .before .before .before .args .bytes .now) (given .read .ensures)
+    (λ i h. omega (arith, given .before .before .shared-slice-known .given i))
 
 returns-2 : tie.Need-returns-2
 returns-2 c =

@@ -14,7 +14,7 @@ use mathlib.Core.List.{List}
 use Prim.Native.Nat.{ℕ}
 use Rattle.writers.specs.Calls.{fitted}
 use Rattle.arrays.specs.Arrays.{countsOf}
-use Rattle.requests.proofs.TakenLaws.{not-of, of-family, witness-few-read}
+use Rattle.requests.proofs.TakenLaws.{not-of, of-family, read-few}
 use Rattle.requests.proofs.taken.witness_numbers.Statement.{statement}
 use Rattle.requests.proofs.taken.witness_numbers.Tie as tie
 
@@ -39,8 +39,8 @@ put-counts-requires : tie.Need-put-counts-requires
 put-counts-requires c κs =
     let told = c .before in
     let given = told .before .before in
-    witness-few-read (given .before .before .before .args .bytes .now) (given .read .ensures)
-    (λ i h. omega (arith, given .before .before .shared-slice-known .given i)) (told .enum-told .given .1)
+    read-few (given .before .before .before .args .bytes .now) (given .read .ensures)
+    (λ i h. omega (arith, given .before .before .shared-slice-known .given i))
 
 returns-2 : tie.Need-returns-2
 returns-2 c =

@@ -19,11 +19,11 @@ use Rattle.search.proofs.keys.store_keys.Statement.{statement}
 use Rattle.search.proofs.keys.store_keys.Tie as tie
 
 abbrev Inv-loop : tie.InvT-loop
-Inv-loop keys₀ values rows row₀ keys row =
-    Stored (λ r. keyBy (getD values r false) r) rows row keys
+Inv-loop keys₀ trues rows row₀ keys row =
+    Stored (λ r. keyBy (getD trues r false) r) rows row keys
 
 abbrev μ-loop : tie.MeasureT-loop
-μ-loop keys₀ values rows row₀ keys row = rows - row
+μ-loop keys₀ trues rows row₀ keys row = rows - row
 
 mul-rows : tie.Need-mul-rows Inv-loop μ-loop
 mul-rows c = record { fits = omega (arith, c .block-count .ensures, blocks-le (c .before .args .table .n) (c .before .pre .0 .0)) }
@@ -78,7 +78,7 @@ sub-key-2 c =
 key-true : (c : tie.Then1 Inv-loop μ-loop)
     → let round = c .before .before in
     toZ w16 (ofZ w16 (toZ w16 (ofZ w16 (toZ w16 (row round) *ℤ pos 2)) +ℤ pos 1))
-    ≡ keyBy (getD (round .before .before .before .args .values .now) (row round) false) (row round)
+    ≡ keyBy (getD (round .before .before .before .args .trues .now) (row round) false) (row round)
 key-true c =
     let round = c .before .before in
     toZ-ofZ (add-key c) ∙ ap (λ (z : ℤ). z +ℤ pos 1) (double round) ∙ sym (ap (λ (y : Bool). keyBy y (row round)) (c .if1 .taken))
@@ -86,7 +86,7 @@ key-true c =
 key-false : (c : tie.Else1 Inv-loop μ-loop)
     → let round = c .before .before in
     toZ w16 (ofZ w16 (toZ w16 (ofZ w16 (toZ w16 (ofZ w16 (toZ w16 (row round) *ℤ pos 2)) -ℤ pos 32767)) -ℤ pos 1))
-    ≡ keyBy (getD (round .before .before .before .args .values .now) (row round) false) (row round)
+    ≡ keyBy (getD (round .before .before .before .args .trues .now) (row round) false) (row round)
 key-false c =
     let round = c .before .before in
     toZ-ofZ (sub-key-2 c) ∙ lower c ∙ sym (ap (λ (y : Bool). keyBy y (row round)) (c .if1 .left))
@@ -94,7 +94,7 @@ key-false c =
 -- what is stored is the row's key
 stored : (c : tie.Joined1 Inv-loop μ-loop)
     → let round = c .before .before in
-    toZ w16 (c .if1 .key) ≡ keyBy (getD (round .before .before .before .args .values .now) (row round) false) (row round)
+    toZ w16 (c .if1 .key) ≡ keyBy (getD (round .before .before .before .args .trues .now) (row round) false) (row round)
 stored c =
     ⊎-elim (λ w. ap (toZ w16) (w .1) ∙ key-true (record { before = c .before; if1 = w .0 }))
     (λ w. ap (toZ w16) (w .1) ∙ key-false (record { before = c .before; if1 = w .0 }))

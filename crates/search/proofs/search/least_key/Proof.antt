@@ -34,7 +34,7 @@ start c = c .before .before .before
 abbrev row : tie.After-key Inv-loop μ-loop → ℕ
 row c = c .before .before .loop .row
 
--- what a pass reads: the sum of the row, that of the higher inputs, and the value as a number
+-- what a pass reads: the sum of the row, that of the higher inputs, what is taken from them, and the key
 abbrev own : tie.After-key Inv-loop μ-loop → ℤ
 own c = getD (start c .args .sums .now) (row c) (pos 0)
 

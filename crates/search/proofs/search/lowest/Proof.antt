@@ -68,7 +68,7 @@ module _ (c : tie.After-all-keys Inv-loop μ-loop) where
       )
 
   passed : (m : ℕ) → m ≤ blocksOf (t .n) → NoneNegative sums ones keys m → Passed t sums m
-  passed = let pre = start c .pre .0 in blocks-passed t sums ones keys (pre .0) (pre .1) (pre .2)
+  passed = let pre = start c .pre in blocks-passed t sums ones keys (pre .0 .0) (pre .0 .1) (pre .0 .2) (pre .1 .0)
 
   -- a negative least key gives the answer
   found : (h code : ℕ) (x : ℤ) → h < blocksOf (t .n) → NoneNegative sums ones keys h → x ≡ leastAt sums ones keys h
@@ -76,8 +76,8 @@ module _ (c : tie.After-all-keys Inv-loop μ-loop) where
       → pos code ≡ x +ℤ pos 32768
       → Answers t sums code
   found h code x inside f is e known =
-      let pre = start c .pre .0 in
-      block-found t sums ones keys (pre .0) (pre .1) (pre .2) h inside (passed h (omega arith) f) code (rw is at e) (rw is at known)
+      let pre = start c .pre in
+      block-found t sums ones keys (pre .0 .0) (pre .0 .1) (pre .0 .2) (pre .1 .0) h inside (passed h (omega arith) f) code (rw is at e) (rw is at known)
 
 -- ---- the first block
 
@@ -179,9 +179,9 @@ returns-3 : tie.Need-returns-3 Inv-loop μ-loop
 returns-3 c =
     let head = c .before in
     let lent = lent-at head in
-    let pre = start lent .pre .0 in
+    let pre = start lent .pre in
     let all : blocksOf (t lent .n) ≤ head .loop .block = omega (arith, head .before .block-count .ensures) in
-    nothing-found (t lent) (sums lent) (ones lent) (keys lent) (pre .0) (pre .1) (pre .2)
+    nothing-found (t lent) (sums lent) (ones lent) (keys lent) (pre .0 .0) (pre .0 .1) (pre .0 .2) (pre .1 .0)
     (passed lent (blocksOf (t lent .n)) (omega arith) (λ h l. head .loop .inv .3 h (omega arith)))
 
 pub lowest-spec : {M : Type 1} → statement M

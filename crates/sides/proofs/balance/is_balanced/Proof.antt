@@ -1,35 +1,49 @@
 -- `balance::is_balanced` meets its contract, by what the test `balances` means. The loop's invariant: both sides have the same sum for
--- each input below `input`. The measure is what is left of the inputs 0 to n. Assumes nothing.
-use mathlib.Core.Path.{_≡_, sym, _∙_}
-use mathlib.Core.Bool.{Bool, true, false}
+-- each input below `input`. The measure is what is left of the inputs 0 to n. Where all sums are the same, the cares of the counts decide.
+-- Assumes nothing.
+use mathlib.Core.Path.{_≡_, sym, _∙_, ap₂}
+use mathlib.Core.Bool.{Bool, true, false, _&&_}
 use mathlib.Core.Logic.{_↔_}
-use Prim.Native.Nat.{ℕ, _+_, _-_, _≤_, _<_}
+use Prim.Native.Nat.{ℕ, suc, _+_, _-_, _≤_, _<_}
 use native.Mathlib.Omega.{arith}
 use lib.ListN.{getD}
 use borrow.Author.Count.{below-none, below-more}
 use borrow.Author.Needs.{needs}
-use Rattle.numbers.proofs.TestLaws.{not-passed}
+use borrow.Author.Tests.{eq-eqb, lt-ltb}
+use Rattle.numbers.proofs.TestLaws.{not-passed, all-below-from}
 use Rattle.types.specs.declared.table.Table.{Table}
 use Rattle.types.specs.declared.witness.Witness.{Witness}
-use Rattle.function.specs.Witness.{countOf, sideSum, Balances, balances}
+use Rattle.function.specs.Function.{Function}
+use Rattle.function.specs.Witness.{countOf, sideSum, Balances, countsCared, balances}
 use Rattle.function.proofs.WitnessLaws.{side-sums-equal, balances-correct}
 use Rattle.table.specs.Table.{functionOf}
 use Rattle.table.specs.Witness.{CountArray}
 use Rattle.table.proofs.WitnessLaws.{count-array}
-use Rattle.table.proofs.OnTables.{table-balances}
 use Rattle.sides.proofs.SideLaws.{sum-at}
 use Rattle.sides.proofs.balance.is_balanced.Statement.{statement}
 use Rattle.sides.proofs.balance.is_balanced.Tie as tie
 
+-- counts whose totals are the same and above 0 balance exactly if none is on a row that is not cared for
+same-balances : (f : Function) (count : ℕ → ℕ) → 0 < sideSum f true count 0
+    → ((i : ℕ) → i ≤ f .places → sideSum f true count i ≡ sideSum f false count i) → balances f count ≡ countsCared f count
+unfolding balances
+same-balances f count above same =
+    ap₂ (λ (x y : Bool). x && y && countsCared f count)
+    (lt-ltb _ _ above)
+    (all-below-from (suc (f .places)) _ (λ i h. eq-eqb _ _ (same i (omega arith))))
+
 abbrev Inv-loop : tie.InvT-loop
-Inv-loop trues falses n input₀ input = (input ≤ n + 1) × (n ≤ 8) × ((i : ℕ) → i < input → getD trues i 0 ≡ getD falses i 0)
+Inv-loop trues falses cared n input₀ input = (input ≤ n + 1) × (n ≤ 8) × ((i : ℕ) → i < input → getD trues i 0 ≡ getD falses i 0)
 
 abbrev μ-loop : tie.MeasureT-loop
-μ-loop trues falses n input₀ input = n + 1 - input
+μ-loop trues falses cared n input₀ input = n + 1 - input
 
-module _ (c : tie.After-side-sums2 Inv-loop μ-loop) where
+module _ (c : tie.After-counts-cared Inv-loop μ-loop) where
+  abbrev summed : tie.After-side-sums2 Inv-loop μ-loop
+  summed = c .before .before .before
+
   abbrev start : tie.Start Inv-loop μ-loop
-  start = c .before .before .before .before .before .before
+  start = summed .before .before .before .before .before .before
 
   abbrev table : Table
   table = start .args .table
@@ -48,11 +62,11 @@ module _ (c : tie.After-side-sums2 Inv-loop μ-loop) where
   says = balances-correct (functionOf table) (countOf (witness .counts))
 
   -- the sums that the calls gave
-  true-is : (i : ℕ) → i < 9 → getD (c .before .before .before .side-sums .result) i 0 ≡ total true i
-  true-is i h = sum-at (total true) i (c .before .before .before .side-sums .ensures) h
+  true-is : (i : ℕ) → i < 9 → getD (summed .before .before .before .side-sums .result) i 0 ≡ total true i
+  true-is i h = sum-at (total true) i (summed .before .before .before .side-sums .ensures) h
 
-  false-is : (i : ℕ) → i < 9 → getD (c .side-sums2 .result) i 0 ≡ total false i
-  false-is i h = sum-at (total false) i (c .side-sums2 .ensures) h
+  false-is : (i : ℕ) → i < 9 → getD (summed .side-sums2 .result) i 0 ≡ total false i
+  false-is i h = sum-at (total false) i (summed .side-sums2 .ensures) h
 
 -- the counts are lent
 counts-lent : (c : tie.Start Inv-loop μ-loop) → CountArray (c .args .t2 .counts)
@@ -91,9 +105,8 @@ returns-3 c =
     let at = above .before in
     let same : (i : ℕ) → i ≤ table at .n → total at true i ≡ total at false i =
     λ i h. sym (true-is at i (omega arith)) ∙ c .before .loop .inv .2 i (omega arith) ∙ false-is at i (omega arith) in
-    sym
-    (says at .1
-    (table-balances (table at) (countOf (witness at .counts)) (same 0 (omega arith)) (omega (arith, above .if1 .left, true-is at 0 (omega arith))) (λ i l h. same i h)))
+    at .counts-cared .ensures
+    ∙ sym (same-balances (functionOf (table at)) (countOf (witness at .counts)) (omega (arith, above .if1 .left, true-is at 0 (omega arith))) same)
 
 pub is-balanced-spec : {M : Type 1} → statement M
 is-balanced-spec =
@@ -103,6 +116,7 @@ is-balanced-spec =
     μ-loop
     (λ c κs. (c .before .before .pre, counts-lent (c .before .before)))
     (λ c κs. (c .before .before .before .before .before .pre, counts-lent (c .before .before .before .before .before)))
+    (λ c κs. search needs)
     (λ c. search needs)
     returns
     (λ c. search needs)

@@ -1,21 +1,20 @@
 -- `sound::is_sound` meets its contract: the array lengths are facts of the code's types, and the other tests stand one after the other.
 -- Assumes nothing.
 use mathlib.Core.Path.{_≡_, refl, sym, _∙_}
-use mathlib.Core.Bool.{Bool, true, _&&_, and-assoc, and-true}
+use mathlib.Core.Bool.{Bool, true, _&&_, and-assoc}
 use native.Mathlib.Nat.{one-mul}
 use lib.Dec.{leb, eqb}
 use lib.ListN.{length, drop}
 use borrow.Author.Tests.{eq-eqb, ne-eqb, leb-true, not-true, not-false}
 use Rattle.numbers.specs.Tests.{allAtMost}
 use Rattle.numbers.proofs.TestLaws.{and-left, and-right}
-use Rattle.function.specs.Witness.{countOf}
+use Rattle.function.specs.Witness.{countOf, countsCared}
 use Rattle.table.specs.Table.{rows, functionOf}
 use Rattle.table.specs.Gate.{inRange}
 use Rattle.types.specs.declared.table.Table.{Table}
 use Rattle.types.specs.declared.state.State.{State}
 use Rattle.machine.specs.Core.{stateOf}
 use Rattle.state.specs.Sound.{cap, markFor, soundIn, isSound}
-use Rattle.table.proofs.OnTables.{table-counts-cared}
 use Rattle.soundness.proofs.TestLaws.{and-passed, and-failed}
 use borrow.Author.Needs.{needs}
 use Rattle.soundness.proofs.sound.is_sound.Statement.{statement}
@@ -34,20 +33,20 @@ module _ (t : Table) (x : State) where
   abbrev copied : Bool
   copied = inRange (x .k) (t .n) (x .s .a) (x .s .b)
 
-  -- these three, and no counts past the table
+  -- these three, and no counts of rows that are not cared for or past the table
   abbrev limits : Bool
-  limits = capped && current && copied && allAtMost 0 (drop (rows t) (x .counts))
+  limits = capped && current && copied && countsCared (functionOf t) (countOf (x .counts)) && allAtMost 0 (drop (rows t) (x .counts))
 
   -- M is that of the stage
   abbrev marked : Bool
   marked = eqb (x .mark) (markFor (x .stage) (x .k))
 
-  -- a state of the code's array lengths is sound on a table, every row of which is cared for, where the limits, the mark and the stage are
+  -- a state of the code's array lengths is sound on a table where the limits, the mark and the stage are
   sound-parts : length (x .v .a) ≡ 8 → length (x .s .a) ≡ 8 → length (x .counts) ≡ 256
       → (limits && (marked && soundIn (functionOf t) (x .stage) x)) ≡ isSound (functionOf t) x
   unfolding isSound
   sound-parts v s counts =
-      rw (v, s, counts, one-mul (x .k), table-counts-cared t (countOf (x .counts)), and-true (capped && current && copied)) (sym (and-assoc limits marked (soundIn (functionOf t) (x .stage) x)))
+      rw (v, s, counts, one-mul (x .k)) (sym (and-assoc limits marked (soundIn (functionOf t) (x .stage) x)))
 
 -- the state that is tested
 abbrev state : tie.Start → State
@@ -76,7 +75,7 @@ sound-in-requires c κs =
     let t = kept .before .before .args .table in
     let x = state (kept .before .before) in
     let all : limits t x ≡ true = sym (kept .before .keeps-limits .ensures) ∙ not-false _ (kept .if1 .left) in
-    let first : (capped t x && current t x) ≡ true = and-left _ _ (and-left _ _ all) in
+    let first : (capped t x && current t x) ≡ true = and-left _ _ (and-left _ _ (and-left _ _ all)) in
     (kept .before .before .pre .0, leb-true _ _ (and-left (capped t x) (current t x) first), and-right (capped t x) (current t x) first, kept .before .before .pre .1)
 
 returns-3 : tie.Need-returns-3

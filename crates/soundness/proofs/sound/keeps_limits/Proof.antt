@@ -1,13 +1,8 @@
 -- `sound::keeps_limits` meets its contract: the tests, one after the other. Assumes nothing.
-use mathlib.Core.Path.{sym, _∙_, ap}
-use Prim.Native.Nat.{ℕ}
-use native.Mathlib.Omega.{arith}
-use lib.ListN.{drop}
+use mathlib.Core.Path.{sym, _∙_}
 use borrow.Author.Needs.{needs}
 use borrow.Author.Tests.{le-leb, lt-leb, not-true, not-false}
-use Rattle.numbers.specs.Tests.{allAtMost}
 use Rattle.state.specs.Sound.{cap}
-use Rattle.table.proofs.TableLaws.{rows-le}
 use Rattle.soundness.proofs.sound.keeps_limits.Statement.{statement}
 use Rattle.soundness.proofs.sound.keeps_limits.Tie as tie
 
@@ -29,23 +24,17 @@ returns-3 c =
       sym (c .before .vector-within2 .ensures) ∙ not-true _ (c .if3 .taken),
     )
 
-counts-within-requires : tie.Need-counts-within-requires
-counts-within-requires c κs =
-    let start = c .before .before .before .before .before .before in
-    (start .pre .1, omega (arith, c .row-count .ensures, rows-le (start .pre .0)))
-
 returns-4 : tie.Need-returns-4
 returns-4 c =
-    let copied = c .before .before in
+    let copied = c .before in
     let current = copied .before .before in
     let capped = current .before .before in
-    let counts = capped .before .args .counts .now in
     rw (
       le-leb _ _ (capped .if1 .left),
       sym (current .before .vector-within .ensures) ∙ not-false _ (current .if2 .left),
       sym (copied .before .vector-within2 .ensures) ∙ not-false _ (copied .if3 .left),
     )
-    (c .counts-within .ensures ∙ ap (λ (rows : ℕ). allAtMost 0 (drop rows counts)) (c .before .row-count .ensures))
+    (c .keeps-rows .ensures)
 
 pub keeps-limits-spec : {M : Type 1} → statement M
 keeps-limits-spec =
@@ -57,5 +46,4 @@ keeps-limits-spec =
     (λ c κs. search needs)
     returns-3
     (λ c κs. search needs)
-    counts-within-requires
     returns-4)

@@ -12,17 +12,20 @@ use Rattle.soundness.proofs.sound.some_fails.Tie as tie
 
 first-failing-requires : tie.Need-first-failing-requires
 first-failing-requires c κs =
-    let valued = c .before .before in
-    let start = valued .before in
+    let valued = c .before .before .before in
+    let cared = valued .before in
+    let start = cared .before in
     let n = start .args .table .n in
-    let x = start .args .core in
-    (start .pre .0, in-range-search (x .k) n (x .v .a) (x .v .b) (start .pre .1) (start .pre .2), valued .row-values .ensures)
+    let x = start .args .core in (
+      (start .pre .0, in-range-search (x .k) n (x .v .a) (x .v .b) (start .pre .1) (start .pre .2)),
+      (cared .row-cares .ensures, valued .row-values .ensures),
+    )
 
 returns : tie.Need-returns
 returns c =
-    let a = c .before .before .before .before .before .args in
+    let a = c .before .before .before .before .before .before .before .args in
     c .is-found .ensures ∙ ap isFound (c .before .first-failing .ensures) ∙ is-found-lowest (failing (functionOf (a .table)) (a .core .v))
 
 pub some-fails-spec : {M : Type 1} → statement M
 some-fails-spec =
-    tie.close (tie.spec (λ c κs. search needs) first-failing-requires (λ c κs. search needs) returns)
+    tie.close (tie.spec (λ c κs. search needs) (λ c κs. search needs) first-failing-requires (λ c κs. search needs) returns)

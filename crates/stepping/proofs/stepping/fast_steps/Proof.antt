@@ -38,11 +38,11 @@ is-fast-requires c κs =
 -- what the fast form asks of the loop's state
 fast : (c : tie.Then1 Inv-loop μ-loop)
     → let core = c .before .before .loop .core in
-    (0 < c .before .before .loop .left) × (core .stage ≡ Open) × (magnitude (core .v) ≤ 14000) × (magnitude (core .s) ≤ 14000)
+    (0 < c .before .before .loop .left) × (core .stage ≡ Open) × (magnitude (core .v) ≤ 9000) × (magnitude (core .s) ≤ 9000)
 fast c = c .before .is-fast .ensures (c .if1 .taken)
 
--- the part of a pass is 1 to 2,000 of what is left
-part-of : (c : tie.Joined2 Inv-loop μ-loop) → (0 < c .if2 .part) × (c .if2 .part ≤ 2000) × (c .if2 .part ≤ c .before .before .before .loop .left)
+-- the part of a pass is 1 to 750 of what is left
+part-of : (c : tie.Joined2 Inv-loop μ-loop) → (0 < c .if2 .part) × (c .if2 .part ≤ 750) × (c .if2 .part ≤ c .before .before .before .loop .left)
 part-of c =
     let some = fast (c .before) .0 in ⊎-elim (λ w. (omega arith, omega arith, omega arith)) (λ w. (omega arith, omega arith, omega arith)) (c .if2 .came)
 

@@ -24,8 +24,8 @@ returns-4 c e =
     let core = at .before .before .args .core in (
       omega (arith, at .before .if1 .left),
       open-stage _ (sym (at .is-ended .ensures) ∙ c .before .before .before .if2 .left),
-      leb-true (magnitude (core .v)) 14000 (sym (c .before .before .is-small .ensures) ∙ not-false _ (c .before .if3 .left)),
-      leb-true (magnitude (core .s)) 14000 (sym (c .is-small2 .ensures) ∙ e),
+      leb-true (magnitude (core .v)) 9000 (sym (c .before .before .is-small .ensures) ∙ not-false _ (c .before .if3 .left)),
+      leb-true (magnitude (core .s)) 9000 (sym (c .is-small2 .ensures) ∙ e),
     )
 
 pub is-fast-spec : {M : Type 1} → statement M

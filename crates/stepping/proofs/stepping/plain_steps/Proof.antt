@@ -33,32 +33,34 @@ record Turned (t : Table) (start : State) (budget made : ℕ) (x : State) (next 
   within : made ≤ budget
 
 abbrev Inv-loop : tie.InvT-loop
-Inv-loop table budget values distances₀ j₀ next₀ made₀ distances j next made = Turned table j₀ budget made j next
+Inv-loop table budget cares values distances₀ j₀ next₀ made₀ distances j next made = Turned table j₀ budget made j next
 
 abbrev μ-loop : tie.MeasureT-loop
-μ-loop table budget values distances₀ j₀ next₀ made₀ distances j next made = budget - made
+μ-loop table budget cares values distances₀ j₀ next₀ made₀ distances j next made = budget - made
 
 -- ---- before the loop
 
 first-failing-requires : tie.Need-first-failing-requires Inv-loop μ-loop
 first-failing-requires c κs =
-    let listed = c .before .before .before in
-    let p = listed .before .pre in
-    (p .0, unsettled-bounded (p .0) (p .1) (omega arith) (unsettled-start (p .1) (p .2)) .ranged, listed .row-values .ensures)
+    let listed = c .before .before .before .before in
+    let p = listed .before .before .pre in (
+      (p .0, unsettled-bounded (p .0) (p .1) (omega arith) (unsettled-start (p .1) (p .2)) .ranged),
+      (listed .before .row-cares .ensures, listed .row-values .ensures),
+    )
 
 loop-holds : tie.Need-loop-holds Inv-loop μ-loop
 loop-holds c =
-    let p = c .before .before .before .before .before .pre in
+    let p = c .before .before .before .before .before .before .before .pre in
     record { unsettled = unsettled-start (p .1) (p .2); search = c .first-failing .ensures; within = omega arith }
 
 -- ---- at the loop's head
 
--- where the values of the rows were listed, and where the function began
+-- where the rows were listed, and where the function began
 abbrev listed : tie.At-loop Inv-loop μ-loop → tie.After-row-values Inv-loop μ-loop
-listed c = c .before .before .before .before .before
+listed c = c .before .before .before .before .before .before
 
 abbrev entry : tie.At-loop Inv-loop μ-loop → tie.Start Inv-loop μ-loop
-entry c = listed c .before
+entry c = listed c .before .before
 
 abbrev table : tie.At-loop Inv-loop μ-loop → Table
 table c = entry c .args .table
@@ -163,14 +165,20 @@ unsettled-on c =
 
 first-failing-requires-2 : tie.Need-first-failing-requires-2 Inv-loop μ-loop
 first-failing-requires-2 c κs =
-    let on = c .before .before .before in
+    let on = c .before .before .before .before in
     let at = told (on .before .before .before) in
     let p = entry (head at) .pre in
     let few : state (head at) .k + (head at .loop .made + 1) ≤ cap = omega (arith, p .3, at .before .before .before .loop-test .taken) in
-    (p .0, unsettled-bounded (p .0) (p .1) few (unsettled-on on) .ranged, listed (head at) .row-values .ensures)
+    let rows = listed (head at) in
+    ((p .0, unsettled-bounded (p .0) (p .1) few (unsettled-on on) .ranged), (rows .before .row-cares .ensures, rows .row-values .ensures))
+
+add-made : tie.Need-add-made Inv-loop μ-loop
+add-made c =
+    let at = told (c .before .before .before .before .before .before .before .before) in
+    omega (arith, at .before .before .before .loop-test .taken, entry (head at) .fits .budget .fits)
 
 loop-again : tie.Need-loop-again Inv-loop μ-loop
-loop-again c = record { unsettled = unsettled-on (c .before .before .before .before); search = c .first-failing2 .ensures; within = omega arith }
+loop-again c = record { unsettled = unsettled-on (c .before .before .before .before .before); search = c .first-failing2 .ensures; within = omega arith }
 
 -- ---- after the loop
 
@@ -192,6 +200,7 @@ plain-steps-spec =
     Inv-loop
     μ-loop
     (λ c κs. search needs)
+    (λ c κs. search needs)
     first-failing-requires
     loop-holds
     (λ c. search needs)
@@ -211,7 +220,7 @@ plain-steps-spec =
     returns-2
     (λ c κs. search needs)
     first-failing-requires-2
-    (λ c. omega arith)
+    add-made
     (λ c. omega arith)
     loop-again
     (λ c. search needs)

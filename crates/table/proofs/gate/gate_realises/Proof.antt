@@ -1,16 +1,16 @@
 -- `gate::gate_realises` meets its contract. The loop's invariant: the gate agrees with the table on each row below `row`. The measure is
 -- the number of rows left. Assumes nothing.
-use mathlib.Core.Path.{_≡_, sym, _∙_, ap₂}
-use mathlib.Core.Bool.{Bool, true, false, Bool·beq}
+use mathlib.Core.Path.{_≡_, sym, _∙_}
+use mathlib.Core.Bool.{Bool, true, false, not, _||_}
 use Prim.Native.Nat.{ℕ, _≤_, _<_, _-_}
 use native.Mathlib.Omega.{arith}
 use borrow.Author.Needs.{needs}
 use borrow.Author.Tests.{not-true, not-false}
 use Rattle.numbers.specs.Tests.{sameBool, allBelow}
-use Rattle.numbers.proofs.TestLaws.{same-bool-beq, all-below-zero, all-below-more, all-below-fails}
+use Rattle.numbers.proofs.TestLaws.{all-below-zero, all-below-more, all-below-fails}
 use Rattle.types.specs.declared.table.Table.{Table}
 use Rattle.types.specs.declared.gate.Gate.{Gate}
-use Rattle.table.specs.Table.{rows, value, functionOf}
+use Rattle.table.specs.Table.{rows, value, cared, functionOf}
 use Rattle.function.specs.Gate.{gateTrue, realises}
 use Rattle.table.proofs.OnTables.{table-realises-test}
 use Rattle.table.proofs.TableLaws.{rows-le}
@@ -20,7 +20,7 @@ use Rattle.table.proofs.gate.gate_realises.Tie as tie
 
 -- whether gate and table agree on a row
 abbrev agrees : Table → Gate → ℕ → Bool
-agrees table gate row = sameBool (gateTrue (gate .weights) (gate .threshold) (level 2 row)) (value table row)
+agrees table gate row = not (cared table row) || sameBool (gateTrue (gate .weights) (gate .threshold) (level 2 row)) (value table row)
 
 -- where they differ on a row, the gate does not realise the table
 realises-fails : (t : Table) (g : Gate) (r : ℕ) → r < rows t → agrees t g r ≡ false → realises (g .weights) (g .threshold) (functionOf t) ≡ false
@@ -39,33 +39,20 @@ abbrev μ-loop : tie.MeasureT-loop
 loop-holds : tie.Need-loop-holds Inv-loop μ-loop
 loop-holds c = (omega arith, all-below-zero _)
 
-gate-true-requires : tie.Need-gate-true-requires Inv-loop μ-loop
-gate-true-requires c κs = omega (arith, c .before .before .row-count .ensures, rows-le (c .before .before .before .pre))
-
-row-value-requires : tie.Need-row-value-requires Inv-loop μ-loop
-row-value-requires c κs = gate-true-requires (c .before) κs
-
--- the test that the code makes, of the results of the two calls
-tested : (c : tie.After-row-value Inv-loop μ-loop)
-    → let head = c .before .before .before in
-    let start = head .before .before in
-    agrees (start .args .table) (start .args .gate) (head .loop .row) ≡ Bool·beq (c .before .gate-true .result) (c .row-value .result)
-tested c =
-    sym
-    (same-bool-beq (c .before .gate-true .result) (c .row-value .result)
-    ∙ ap₂ sameBool (c .before .gate-true .ensures) (c .row-value .ensures))
+agrees-at-requires : tie.Need-agrees-at-requires Inv-loop μ-loop
+agrees-at-requires c κs = omega (arith, c .before .before .row-count .ensures, rows-le (c .before .before .before .pre))
 
 returns : tie.Need-returns Inv-loop μ-loop
 returns c =
-    let head = c .before .before .before .before in
+    let head = c .before .before .before in
     let a = head .before .before .args in
     let below : head .loop .row < rows (a .table) = omega (arith, head .before .row-count .ensures) in
-    sym (realises-fails (a .table) (a .gate) _ below (tested (c .before) ∙ not-true _ (c .if1 .taken)))
+    sym (realises-fails (a .table) (a .gate) _ below (sym (c .before .agrees-at .ensures) ∙ not-true _ (c .if1 .taken)))
 
 loop-again : tie.Need-loop-again Inv-loop μ-loop
 loop-again c =
-    let head = c .before .before .before .before in
-    (omega arith, all-below-more (head .loop .row) _ (head .loop .inv .1) (tested (c .before) ∙ not-false _ (c .if1 .left)))
+    let head = c .before .before .before in
+    (omega arith, all-below-more (head .loop .row) _ (head .loop .inv .1) (sym (c .before .agrees-at .ensures) ∙ not-false _ (c .if1 .left)))
 
 returns-2 : tie.Need-returns-2 Inv-loop μ-loop
 returns-2 c =
@@ -81,8 +68,7 @@ gate-realises-spec =
     μ-loop
     (λ c κs. search needs)
     loop-holds
-    gate-true-requires
-    row-value-requires
+    agrees-at-requires
     returns
     (λ c. search needs)
     (λ c. search needs)

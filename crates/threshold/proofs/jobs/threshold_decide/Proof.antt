@@ -9,7 +9,7 @@ use Rattle.outcome.specs.Outcome.{decidedBack}
 use Rattle.outcome.proofs.HandedLaws.{handed-as, handed-refused}
 use Rattle.codec.specs.Kind.{tables}
 use Rattle.records.specs.declared.read.Read.{Read}
-use Rattle.requests.proofs.TakenLaws.{not-of, of-family, table-kept-read}
+use Rattle.requests.proofs.TakenLaws.{not-of, of-family, read-kept}
 use Rattle.threshold.proofs.jobs.threshold_decide.Statement.{statement}
 use Rattle.threshold.proofs.jobs.threshold_decide.Tie as tie
 
@@ -26,8 +26,8 @@ decide-table-requires : tie.Need-decide-table-requires
 decide-table-requires c κs =
     let told = c .before .before in
     let given = told .before .before in
-    table-kept-read (given .before .before .before .args .bytes .now) (given .read .ensures)
-    (λ i h. omega (arith, given .before .before .shared-slice-known .given i)) (told .enum-told .given .1)
+    read-kept (given .before .before .before .args .bytes .now) (given .read .ensures)
+    (λ i h. omega (arith, given .before .before .shared-slice-known .given i))
 
 returns-2 : tie.Need-returns-2
 returns-2 c =

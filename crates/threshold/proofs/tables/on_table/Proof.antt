@@ -15,7 +15,7 @@ use Rattle.results.proofs.ResultLaws.{returned-as, returned-refused}
 use Rattle.inputs.specs.Inputs.{askedBytes}
 use Rattle.codec.specs.Kind.{tables}
 use Rattle.records.specs.declared.read.Read.{Read}
-use Rattle.requests.proofs.TakenLaws.{not-of, of-family, table-kept-read}
+use Rattle.requests.proofs.TakenLaws.{not-of, of-family, read-kept}
 use Rattle.threshold.proofs.tables.on_table.Statement.{statement}
 use Rattle.threshold.proofs.tables.on_table.Tie as tie
 
@@ -36,8 +36,8 @@ put-asked-requires : tie.Need-put-asked-requires
 put-asked-requires c κs =
     let told = c .before in
     let given = told .before .before in
-    table-kept-read (given .before .before .before .args .bytes .now) (given .read .ensures)
-    (λ i h. omega (arith, given .before .before .shared-slice-known .given i)) (told .enum-told .given .1)
+    read-kept (given .before .before .before .args .bytes .now) (given .read .ensures)
+    (λ i h. omega (arith, given .before .before .shared-slice-known .given i))
 
 returns-2 : tie.Need-returns-2
 returns-2 c =

@@ -1,8 +1,8 @@
--- `machine::binate::binate_at` meets its contract. The loop's invariant: the two words have gathered the rises and the falls of the words
+-- `binate::binate_at` meets its contract. The loop's invariant: the two words have gathered the rises and the falls of the words
 -- below `at`. The measure is the number of words left. Assumes nothing.
 use mathlib.Core.Path.{_≡_, sym, _∙_, ap, ap₂}
 use mathlib.Core.Bool.{Bool, true, false, not, _&&_}
-use Prim.Native.Nat.{ℕ, _-_, _≤_, _<_}
+use Prim.Native.Nat.{ℕ, _*_, _-_, _≤_, _<_}
 use native.Mathlib.Omega.{arith}
 use borrow.Author.Needs.{needs}
 use borrow.Author.Tests.{eq-eqb, ne-eqb}
@@ -12,39 +12,39 @@ use Rattle.types.specs.declared.table.Table.{Table}
 use Rattle.table.specs.Table.{rows, functionOf}
 use Rattle.unateness.specs.declared.words.Pairs.{Pairs}
 use Rattle.numbers.specs.Packed.{packed}
-use Rattle.unateness.specs.Words.{wordOf, rowWords}
-use Rattle.machine.specs.Scan.{inTable}
+use Rattle.unateness.specs.Words.{wordOf, onSide, sideWords}
 use Rattle.function.specs.Binate.{binateAt}
 use Rattle.function.proofs.BinateLaws.{binate-at-searches}
-use Rattle.unateness.proofs.TurnLaws.{gathered, turned, gather-none, gather-more, word-rises, word-falls, turn-found}
+use Rattle.unateness.proofs.TurnLaws.{gathered, turned, gather-none, gather-more, word-turned, turn-found}
 use Rattle.unateness.proofs.binate.binate_at.Statement.{statement}
 use Rattle.unateness.proofs.binate.binate_at.Tie as tie
 
 abbrev Inv-loop : tie.InvT-loop
-Inv-loop words place rises₀ falls₀ at₀ rises falls at =
-    (at ≤ 4)
-    × ((f : ℕ → Bool) → words ≡ tabulate 4 (wordOf f)
-    → (rises ≡ packed 64 (gathered (turned f true place) at)) × (falls ≡ packed 64 (gathered (turned f false place) at)))
+Inv-loop trues falses words place rises₀ falls₀ at₀ rises falls at =
+    (at ≤ words)
+    × ((sides : Bool → ℕ → Bool) → trues ≡ tabulate 4 (wordOf (sides true)) → falses ≡ tabulate 4 (wordOf (sides false))
+    → (rises ≡ packed 64 (gathered (turned sides true place) at)) × (falls ≡ packed 64 (gathered (turned sides false place) at)))
 
 abbrev μ-loop : tie.MeasureT-loop
-μ-loop words place rises₀ falls₀ at₀ rises falls at = 4 - at
+μ-loop trues falses words place rises₀ falls₀ at₀ rises falls at = words - at
 
 loop-holds : tie.Need-loop-holds Inv-loop μ-loop
-loop-holds c = (omega arith, λ f e. (gather-none (turned f true (c .args .place)), gather-none (turned f false (c .args .place))))
+loop-holds c = (omega arith, λ sides e d. (gather-none (turned sides true (c .args .place)), gather-none (turned sides false (c .args .place))))
 
 loop-again : tie.Need-loop-again Inv-loop μ-loop
 loop-again c =
     let call = c .before .before .before .before in
-    let at-head = call .before .before .loop in
-    let place = call .before .before .before .args .place in (
+    let at-head = call .before .before .before .loop in
+    let place = call .before .before .before .before .args .place in (
       omega arith,
-      λ f e.
-          let pairs = call .pairs-at .ensures f e in
-          let own = ap (λ (x : Pairs). x .own) pairs in
-          let partner = ap (λ (x : Pairs). x .partner) pairs in
-          let passed = at-head .inv .1 f e in (
-            gather-more (turned f true place) (at-head .at) (passed .0) (word-rises f place (at-head .at) own partner),
-            gather-more (turned f false place) (at-head .at) (passed .1) (word-falls f place (at-head .at) own partner),
+      λ sides e d.
+          let on = call .before .pairs-at .ensures (sides true) e in
+          let off = call .pairs-at2 .ensures (sides false) d in
+          let passed = at-head .inv .1 sides e d in (
+            gather-more (turned sides true place) (at-head .at) (passed .0)
+                (word-turned sides true place (at-head .at) (ap (λ (x : Pairs). x .own) off) (ap (λ (x : Pairs). x .partner) on)),
+            gather-more (turned sides false place) (at-head .at) (passed .1)
+                (word-turned sides false place (at-head .at) (ap (λ (x : Pairs). x .own) on) (ap (λ (x : Pairs). x .partner) off)),
           ),
     )
 
@@ -52,29 +52,30 @@ loop-again c =
 found-both : (c : tie.After-loop Inv-loop μ-loop) (t : Table)
     → let at-end = c .before .loop in
     let a = c .before .before .args in
-    t .n ≤ 8
+    rows t ≤ 64 * a .words
     → a .place < t .n
-    → a .words .now ≡ rowWords t
+    → a .trues .now ≡ sideWords t .trues
+    → a .falses .now ≡ sideWords t .falses
     → (not (eqb (at-end .rises) 0) && not (eqb (at-end .falls) 0)) ≡ binateAt (functionOf t) (a .place)
-found-both c t h k e =
+found-both c t h k e d =
     let at-end = c .before .loop in
     let place = c .before .before .args .place in
-    let all : at-end .at ≡ 4 = omega arith in
-    let passed = at-end .inv .1 (inTable (rows t) (t .bytes)) e in
-    ap₂ _&&_ (turn-found t true place h k all (passed .0)) (turn-found t false place h k all (passed .1))
+    let all : rows t ≤ 64 * at-end .at = omega arith in
+    let passed = at-end .inv .1 (onSide t) e d in
+    ap₂ _&&_ (turn-found t true place k (at-end .at) all (passed .0)) (turn-found t false place k (at-end .at) all (passed .1))
     ∙ sym (binate-at-searches (functionOf t) place)
 
 returns : tie.Need-returns Inv-loop μ-loop
-returns c t h k e =
+returns c t h k e d =
     let at-end = c .before .before .loop in
     let rises = ap not (ne-eqb (at-end .rises) 0 (c .if1 .taken)) in
-    ap (λ (b : Bool). b && not (eqb (at-end .falls) 0)) (sym rises) ∙ found-both (c .before) t h k e
+    ap (λ (b : Bool). b && not (eqb (at-end .falls) 0)) (sym rises) ∙ found-both (c .before) t h k e d
 
 returns-2 : tie.Need-returns-2 Inv-loop μ-loop
-returns-2 c t h k e =
+returns-2 c t h k e d =
     let at-end = c .before .before .loop in
     let idle = ap not (eq-eqb (at-end .rises) 0 (c .if1 .left)) in
-    idle ∙ ap (λ (b : Bool). b && not (eqb (at-end .falls) 0)) (sym idle) ∙ found-both (c .before) t h k e
+    idle ∙ ap (λ (b : Bool). b && not (eqb (at-end .falls) 0)) (sym idle) ∙ found-both (c .before) t h k e d
 
 pub binate-at-spec : {M : Type 1} → statement M
 binate-at-spec =
@@ -83,6 +84,7 @@ binate-at-spec =
     Inv-loop
     μ-loop
     loop-holds
+    (λ c κs. search needs)
     (λ c κs. search needs)
     (λ c. search needs)
     (λ c. search needs)

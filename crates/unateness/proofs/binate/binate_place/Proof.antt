@@ -1,43 +1,61 @@
--- `machine::binate::binate_place` meets its contract. The loop's invariant: no place below `place` is binate in the table of the words. The
+-- `binate::binate_place` meets its contract. The loop's invariant: no place below `place` is binate in the table of the words. The
 -- measure is the number of places left. Assumes nothing.
 use mathlib.Core.Path.{_≡_, refl, sym, _∙_, ap}
 use mathlib.Core.Bool.{false}
-use Prim.Native.Nat.{ℕ, _-_, _≤_, _<_}
+use Prim.Native.Nat.{ℕ, _+_, _*_, _-_, _/_, _≤_, _<_}
 use native.Mathlib.Omega.{arith}
 use borrow.Author.Count.{below-none, below-more}
 use borrow.Author.Needs.{needs}
 use Rattle.numbers.proofs.FirstLaws.{first-at, first-fails}
 use Rattle.types.specs.declared.table.Table.{Table}
 use Rattle.table.specs.Inputs.{lowestOf}
-use Rattle.unateness.specs.Words.{rowWords}
+use Rattle.unateness.specs.declared.words.Sides.{Sides}
+use Rattle.unateness.specs.Words.{sideWords}
 use Rattle.function.specs.Binate.{binateAt}
 use Rattle.function.proofs.BinateLaws.{binate-place-search}
-use Rattle.table.specs.Table.{functionOf}
+use Rattle.table.specs.Table.{rows, functionOf}
+use Rattle.table.proofs.TableLaws.{rows-le}
 use Rattle.unateness.proofs.binate.binate_place.Statement.{statement}
 use Rattle.unateness.proofs.binate.binate_place.Tie as tie
 
 abbrev Inv-loop : tie.InvT-loop
-Inv-loop words n place₀ place =
-    (place ≤ n) × ((t : Table) → t .n ≤ 8 → t .n ≡ n → words ≡ rowWords t → (p : ℕ) → p < place → binateAt (functionOf t) p ≡ false)
+Inv-loop trues falses n words place₀ place =
+    (place ≤ n)
+    × (words ≤ 4)
+    × ((t : Table) → rows t ≤ 64 * words → t .n ≡ n → trues ≡ sideWords t .trues → falses ≡ sideWords t .falses → (p : ℕ) → p < place
+    → binateAt (functionOf t) p ≡ false)
 
 abbrev μ-loop : tie.MeasureT-loop
-μ-loop words n place₀ place = n - place
+μ-loop trues falses n words place₀ place = n - place
 
 loop-holds : tie.Need-loop-holds Inv-loop μ-loop
-loop-holds c = (omega arith, λ t h n e. below-none _)
+loop-holds c =
+    (omega arith, omega (arith, c .row-count .ensures, rows-le (c .before .before .before .before .before .pre)), λ t h n e d. below-none _)
 
 -- the table that came in is one of the words
 abbrev table : tie.At-loop Inv-loop μ-loop → Table
-table c = c .before .before .before .args .table
+table c = c .before .before .before .before .before .before .args .table
+
+sides-are : (c : tie.At-loop Inv-loop μ-loop) → c .before .before .before .before .before .side-words .result ≡ sideWords (table c)
+sides-are c = c .before .before .before .before .before .side-words .ensures
+
+trues-are : (c : tie.At-loop Inv-loop μ-loop) → c .before .before .before .before .before .side-words .result .trues ≡ sideWords (table c) .trues
+trues-are c = ap (λ (s : Sides). s .trues) (sides-are c)
+
+falses-are : (c : tie.At-loop Inv-loop μ-loop) → c .before .before .before .before .before .side-words .result .falses ≡ sideWords (table c) .falses
+falses-are c = ap (λ (s : Sides). s .falses) (sides-are c)
+
+-- the words hold its rows
+held : (c : tie.At-loop Inv-loop μ-loop) → rows (table c) ≤ 64 * ((c .before .row-count .result + 63) / 64)
+held c = omega (arith, c .before .row-count .ensures)
 
 passed : (c : tie.At-loop Inv-loop μ-loop) (p : ℕ) → p < c .loop .place → binateAt (functionOf (table c)) p ≡ false
-passed c = c .loop .inv .1 (table c) (c .before .before .before .pre) refl (c .before .before .row-words .ensures)
+passed c = c .loop .inv .2 (table c) (held c) refl (trues-are c) (falses-are c)
 
 returns : tie.Need-returns Inv-loop μ-loop
 returns c =
-    let head = c .before .before .before .before in
+    let head = c .before .before .before .before .before in
     let t = table head in
-    let words-are = head .before .before .row-words .ensures in
     sym
     (ap lowestOf
     (binate-place-search (functionOf t)
@@ -45,15 +63,16 @@ returns c =
     record {
       start = omega arith;
       inside = omega arith;
-      passes = sym (c .before .binate-at .ensures t (omega arith) (omega arith) words-are) ∙ c .if1 .taken;
+      passes = sym (c .before .binate-at .ensures t (held head) (omega arith) (trues-are head) (falses-are head)) ∙ c .if1 .taken;
       before = λ p l h. passed head p h;
     }))
 
 loop-again : tie.Need-loop-again Inv-loop μ-loop
 loop-again c =
-    let head = c .before .before .before .before in (
+    let head = c .before .before .before .before .before in (
       omega arith,
-      λ t h n e. below-more _ _ (head .loop .inv .1 t h n e) (sym (c .before .binate-at .ensures t h (omega arith) e) ∙ c .if1 .left),
+      head .loop .inv .1,
+      λ t h n e d. below-more _ _ (head .loop .inv .2 t h n e d) (sym (c .before .binate-at .ensures t h (omega arith) e d) ∙ c .if1 .left),
     )
 
 returns-2 : tie.Need-returns-2 Inv-loop μ-loop
@@ -69,6 +88,8 @@ binate-place-spec =
     μ-loop
     (λ c κs. search needs)
     (λ c. search needs)
+    (λ c κs. search needs)
+    (λ c. record { fits = omega (arith, c .row-count .ensures, rows-le (c .before .before .before .before .before .pre)) })
     loop-holds
     (λ c κs. search needs)
     returns

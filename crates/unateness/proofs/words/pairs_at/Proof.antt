@@ -1,31 +1,23 @@
 -- `words::pairs_at` meets its contract. The two shifts of 1 lose nothing, and where a word lacks the input its partners stand in one of the
 -- four words. Assumes nothing.
 use mathlib.Core.Path.{_≡_, _∙_, ap, ap₂}
-use mathlib.Core.Bool.{Bool}
-use mathlib.Core.List.{List}
 use Prim.Native.Nat.{ℕ, _+_, _*_, _-_, _/_, _^_, _%_, _<_}
 use native.Mathlib.Omega.{arith}
 use borrow.Author.Needs.{needs}
 use lib.Bits.{bitAnd}
 use lib.ListN.{getD}
 use lib.Pow.{pow-mono}
-use Rattle.numbers.specs.Tabulate.{tabulate}
-use Rattle.numbers.proofs.TabulateLaws.{getD-tabulate}
 use Rattle.function.specs.Function.{level}
 use Rattle.table.proofs.TableLaws.{level-lt, partner-below}
 use Rattle.unateness.specs.declared.words.Pairs.{Pairs}
 use Rattle.unateness.specs.Words.{wordOf}
 use Rattle.numbers.proofs.PowerLaws.{one-shifted}
-use Rattle.unateness.proofs.PairLaws.{own-within, partner-within, own-across, partner-across, pairs-none}
+use Rattle.unateness.proofs.PairLaws.{word-is, own-within, partner-within, own-across, partner-across, pairs-none}
 use Rattle.unateness.proofs.words.pairs_at.Statement.{statement}
 use Rattle.unateness.proofs.words.pairs_at.Tie as tie
 
 abbrev both : ℕ → ℕ → Pairs
 both own partner = record { own = own; partner = partner }
-
--- a word that the list holds
-word-is : {words : List ℕ} (f : ℕ → Bool) (k : ℕ) → k < 4 → words ≡ tabulate 4 (wordOf f) → getD words k 0 ≡ wordOf f k
-word-is f k h e = ap (λ (l : List ℕ). getD l k 0) e ∙ getD-tabulate (wordOf f) 4 k 0 h
 
 shr-moved : tie.Need-shr-moved
 shr-moved c =

@@ -2,6 +2,7 @@
 use mathlib.Core.List.{[]}
 use native.Mathlib.Omega.{arith}
 use borrow.Author.Needs.{needs}
+use Rattle.cell.proofs.TableChecked.{kept-inputs, kept-cares}
 use Rattle.records.specs.Record.{ofJob}
 use Rattle.writers.proofs.KeptLaws.{kept-job, kept-open}
 use Rattle.writers.proofs.WriteLaws.{Passed, write-refused, write-passed, size-most, write-short, body-room, write-body}
@@ -26,20 +27,28 @@ add-if1 c = omega (arith, size-most (passed (c .before)) (c .job-length .ensures
 returns-2 : tie.Need-returns-2
 returns-2 c = write-short (passed (c .before .before)) (c .before .job-length .ensures) (c .if1 .taken)
 
+kind-for-requires : tie.Need-kind-for-requires
+kind-for-requires c κs =
+    let told = c .before .before .before in
+    let t = told .before .before .before .before .args .job .table in
+    (kept-inputs t (passed told .kept), kept-cares t (passed told .kept))
+
 put-job-requires : tie.Need-put-job-requires
 put-job-requires c κs =
     let put = c .before .before .before in
-    let fits = put .before .before in
+    let picked = put .before in
+    let fits = picked .before .before in
     let told = fits .before .before in
     let j = told .before .before .before .before .args .job in
-    (kept-job j (passed told .kept), kept-open j [] (passed told .kept), body-room (passed told) (fits .before .job-length .ensures) (fits .if1 .left) (put .put-kind .ensures))
+    (kept-job j (passed told .kept), kept-open j [] (passed told .kept), body-room (passed told) (fits .before .job-length .ensures) (fits .if1 .left) (picked .kind-for .ensures) (put .put-kind .ensures))
 
 returns-3 : tie.Need-returns-3
 returns-3 c =
     let wrote = c .before .before in
     let put = wrote .before .before .before .before in
-    let fits = put .before .before in
-    write-body (passed (fits .before .before)) (fits .before .job-length .ensures) (fits .if1 .left) (put .put-kind .ensures) (wrote .put-job .ensures)
+    let picked = put .before in
+    let fits = picked .before .before in
+    write-body (passed (fits .before .before)) (fits .before .job-length .ensures) (fits .if1 .left) (picked .kind-for .ensures) (put .put-kind .ensures) (wrote .put-job .ensures)
 
 pub save-spec : {M : Type 1} → statement M
 save-spec =
@@ -52,6 +61,7 @@ save-spec =
     job-length-requires
     add-if1
     returns-2
+    kind-for-requires
     (λ c κs. search needs)
     put-job-requires
     (λ c. search needs)

@@ -1,8 +1,10 @@
 -- `writers::write::write_gate` meets its contract: the law of a call that writes, at a table with a gate. Assumes nothing.
+use mathlib.Core.List.{[]}
 use native.Mathlib.Omega.{arith}
 use borrow.Author.Needs.{needs}
 use Rattle.records.specs.Record.{ofGate}
-use Rattle.writers.proofs.WriteLaws.{Passed, write-refused, write-passed, size-most, write-short, body-room, write-body}
+use Rattle.writers.proofs.KeptLaws.{kept-gate}
+use Rattle.writers.proofs.WriteLaws.{Passed, write-refused, write-passed, size-most, write-short, body-room, write-body, gate-kind}
 use Rattle.writers.proofs.write.write_gate.Statement.{statement}
 use Rattle.writers.proofs.write.write_gate.Tie as tie
 
@@ -10,13 +12,13 @@ returns : tie.Need-returns
 returns c =
     let at = c .before .before .before in
     let a = at .before .before .args in
-    write-refused (ofGate (a .table) (a .gate)) (a .out .now) (at .gate-status .ensures) (c .before .status .given .1)
+    write-refused (ofGate (a .table) (a .gate)) (a .out .now) (at .gate-kept .ensures) (c .before .status .given .1)
 
 passed : (c : tie.After-enum-told) → let a = c .before .before .before .before .args in Passed (ofGate (a .table) (a .gate)) (a .out .now)
-passed c = let a = c .before .before .before .before .args in write-passed (ofGate (a .table) (a .gate)) (a .out .now) (c .before .before .gate-status .ensures) (c .enum-told .given .1)
+passed c = let a = c .before .before .before .before .args in write-passed (ofGate (a .table) (a .gate)) (a .out .now) (c .before .before .gate-kept .ensures) (c .enum-told .given .1)
 
 gate-length-requires : tie.Need-gate-length-requires
-gate-length-requires c κs = passed c .kept
+gate-length-requires c κs = let a = c .before .before .before .before .args in kept-gate (a .table) (a .gate) [] (passed c .kept)
 
 add-if1 : tie.Need-add-if1
 add-if1 c = omega (arith, size-most (passed (c .before)) (c .gate-length .ensures))
@@ -28,14 +30,18 @@ put-gate-requires : tie.Need-put-gate-requires
 put-gate-requires c κs =
     let put = c .before .before .before in
     let fits = put .before .before in
-    (passed (fits .before .before) .kept, body-room (passed (fits .before .before)) (fits .before .gate-length .ensures) (fits .if1 .left) (put .put-kind .ensures))
+    let told = fits .before .before in
+    let a = told .before .before .before .before .args in
+    (kept-gate (a .table) (a .gate) [] (passed told .kept), body-room (passed told) (fits .before .gate-length .ensures) (fits .if1 .left) (gate-kind (a .table) (a .gate)) (put .put-kind .ensures))
 
 returns-3 : tie.Need-returns-3
 returns-3 c =
     let wrote = c .before .before in
     let put = wrote .before .before .before .before in
     let fits = put .before .before in
-    write-body (passed (fits .before .before)) (fits .before .gate-length .ensures) (fits .if1 .left) (put .put-kind .ensures) (wrote .put-gate .ensures)
+    let told = fits .before .before in
+    let a = told .before .before .before .before .args in
+    write-body (passed told) (fits .before .gate-length .ensures) (fits .if1 .left) (gate-kind (a .table) (a .gate)) (put .put-kind .ensures) (wrote .put-gate .ensures)
 
 pub write-gate-spec : {M : Type 1} → statement M
 write-gate-spec =

@@ -1,8 +1,10 @@
 -- `writers::write::write_witness` meets its contract: the law of a call that writes, at a table with a witness. Assumes nothing.
+use mathlib.Core.List.{[]}
 use native.Mathlib.Omega.{arith}
 use borrow.Author.Needs.{needs}
 use Rattle.records.specs.Record.{ofWitness}
-use Rattle.writers.proofs.WriteLaws.{Passed, write-refused, write-passed, size-most, write-short, body-room, write-body}
+use Rattle.writers.proofs.KeptLaws.{kept-witness}
+use Rattle.writers.proofs.WriteLaws.{Passed, write-refused, write-passed, size-most, write-short, body-room, write-body, witness-kind}
 use Rattle.writers.proofs.write.write_witness.Statement.{statement}
 use Rattle.writers.proofs.write.write_witness.Tie as tie
 
@@ -10,13 +12,13 @@ returns : tie.Need-returns
 returns c =
     let at = c .before .before .before in
     let a = at .before .before .args in
-    write-refused (ofWitness (a .table) (a .witness)) (a .out .now) (at .witness-status .ensures) (c .before .status .given .1)
+    write-refused (ofWitness (a .table) (a .witness)) (a .out .now) (at .witness-kept .ensures) (c .before .status .given .1)
 
 passed : (c : tie.After-enum-told) → let a = c .before .before .before .before .args in Passed (ofWitness (a .table) (a .witness)) (a .out .now)
-passed c = let a = c .before .before .before .before .args in write-passed (ofWitness (a .table) (a .witness)) (a .out .now) (c .before .before .witness-status .ensures) (c .enum-told .given .1)
+passed c = let a = c .before .before .before .before .args in write-passed (ofWitness (a .table) (a .witness)) (a .out .now) (c .before .before .witness-kept .ensures) (c .enum-told .given .1)
 
 witness-length-requires : tie.Need-witness-length-requires
-witness-length-requires c κs = passed c .kept
+witness-length-requires c κs = let a = c .before .before .before .before .args in kept-witness (a .table) (a .witness) [] (passed c .kept)
 
 add-if1 : tie.Need-add-if1
 add-if1 c = omega (arith, size-most (passed (c .before)) (c .witness-length .ensures))
@@ -28,14 +30,18 @@ put-witness-requires : tie.Need-put-witness-requires
 put-witness-requires c κs =
     let put = c .before .before .before in
     let fits = put .before .before in
-    (passed (fits .before .before) .kept, body-room (passed (fits .before .before)) (fits .before .witness-length .ensures) (fits .if1 .left) (put .put-kind .ensures))
+    let told = fits .before .before in
+    let a = told .before .before .before .before .args in
+    (kept-witness (a .table) (a .witness) [] (passed told .kept), body-room (passed told) (fits .before .witness-length .ensures) (fits .if1 .left) (witness-kind (a .table) (a .witness)) (put .put-kind .ensures))
 
 returns-3 : tie.Need-returns-3
 returns-3 c =
     let wrote = c .before .before in
     let put = wrote .before .before .before .before in
     let fits = put .before .before in
-    write-body (passed (fits .before .before)) (fits .before .witness-length .ensures) (fits .if1 .left) (put .put-kind .ensures) (wrote .put-witness .ensures)
+    let told = fits .before .before in
+    let a = told .before .before .before .before .args in
+    write-body (passed told) (fits .before .witness-length .ensures) (fits .if1 .left) (witness-kind (a .table) (a .witness)) (put .put-kind .ensures) (wrote .put-witness .ensures)
 
 pub write-witness-spec : {M : Type 1} → statement M
 write-witness-spec =

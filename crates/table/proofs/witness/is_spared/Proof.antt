@@ -1,0 +1,23 @@
+-- `witness::is_spared` meets its contract: a row without a count is spared, and its care decides for another. Assumes nothing.
+use mathlib.Core.Path.{_≡_, sym, _∙_, ap}
+use mathlib.Core.Bool.{Bool, _||_, or-true, or-false}
+use lib.Dec.{eqb}
+use borrow.Author.Needs.{needs}
+use borrow.Author.Tests.{eq-eqb, ne-eqb}
+use Rattle.table.specs.Table.{cared}
+use Rattle.table.proofs.witness.is_spared.Statement.{statement}
+use Rattle.table.proofs.witness.is_spared.Tie as tie
+
+returns : tie.Need-returns
+returns c =
+    let a = c .before .args in
+    sym (ap (λ (b : Bool). cared (a .table) (a .row) || b) (eq-eqb (a .count) 0 (c .if1 .taken)) ∙ or-true (cared (a .table) (a .row)))
+
+returns-2 : tie.Need-returns-2
+returns-2 c =
+    let a = c .before .before .args in
+    c .row-cared .ensures
+    ∙ sym (ap (λ (b : Bool). cared (a .table) (a .row) || b) (ne-eqb (a .count) 0 (c .before .if1 .left)) ∙ or-false (cared (a .table) (a .row)))
+
+pub is-spared-spec : {M : Type 1} → statement M
+is-spared-spec = tie.close (tie.spec returns (λ c κs. search needs) returns-2)
