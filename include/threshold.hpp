@@ -5,9 +5,12 @@
 //     const threshold::Outcome outcome = threshold::decide(*table);
 //     if (const auto *gate = std::get_if<threshold::Gate>(&outcome.verdict)) use(gate->weights(), gate->threshold());
 //
-// A Table, Gate, Witness or Job holds a record that the library has written or read, so it is whole and right, and a call that takes one
-// refuses only what it says. docs/FORMAT.md describes the bytes. All are plain values; nothing throws, allocates memory or is shared
-// between calls, and an iterator lent to a call must not throw either.
+// Where some rows never occur, Table::from_cares says which are cared for: a gate then has to agree on these alone.
+//
+// A Table or a Job holds a record that the library has written or read, and a Gate or a Witness its table and numbers that the library has
+// given or taken. So each is whole and right, and a call that takes one refuses only what it says. docs/FORMAT.md describes the bytes. A
+// gate's and a witness's record is written when it is asked for; there is none for a table with a row that is not cared for. All are plain
+// values; nothing throws, allocates memory or is shared between calls, and an iterator lent to a call must not throw either.
 #ifndef THRESHOLD_HPP
 #define THRESHOLD_HPP
 
@@ -45,11 +48,13 @@ enum class Refusal : std::uint8_t {
     ended = THRESHOLD_REFUSED_ENDED,
     row = THRESHOLD_REFUSED_ROW,
     report_input = THRESHOLD_REFUSED_REPORT_INPUT,
+    care = THRESHOLD_REFUSED_CARE,
     other_kind = THRESHOLD_REFUSED_OTHER_KIND,
     digits = THRESHOLD_REFUSED_DIGITS,
     digit = THRESHOLD_REFUSED_DIGIT,
     words = THRESHOLD_REFUSED_WORDS,
-    numbers = THRESHOLD_REFUSED_NUMBERS
+    numbers = THRESHOLD_REFUSED_NUMBERS,
+    not_found = THRESHOLD_REFUSED_NOT_FOUND
 };
 
 inline const char *text(Refusal refusal) noexcept {
@@ -114,12 +119,14 @@ namespace detail {
 
 using Answer = std::array<std::uint8_t, THRESHOLD_ROOM>;
 
-// The longest records: kind, n and 32 bytes of table; numbers of three bytes, eight weights and T; K, v and s; a row list of 256 pairs.
-constexpr std::size_t table_room = 34;
+// Room for the longest records: kind, n and 32 bytes of values, with which gates and witnesses begin; 32 bytes of cares; numbers of three
+// bytes, eight weights and T; K, v and s; a row list of 256 pairs.
+constexpr std::size_t full_room = 2 + 32;
+constexpr std::size_t table_room = full_room + 32;
 constexpr std::size_t vector_room = 9 * 3;
 constexpr std::size_t rows_room = 2 + 256 * (2 + 3);
-constexpr std::size_t gate_room = table_room + vector_room;
-constexpr std::size_t witness_room = table_room + rows_room;
+constexpr std::size_t gate_room = full_room + vector_room;
+constexpr std::size_t witness_room = full_room + rows_room;
 constexpr std::size_t job_room = table_room + 3 + 2 * vector_room + rows_room;
 static_assert(job_room <= THRESHOLD_ROOM, "every record fits the header's room");
 
@@ -127,13 +134,14 @@ inline Refusal refused(std::int64_t returned) noexcept {
     return static_cast<Refusal>(-returned);
 }
 
-// A record of one kind. Self has a constructor from bytes that are known to be such a record.
-template <class Self, std::uint8_t Kind, std::size_t Room> class Record {
+// A record of one of two kinds: with every row of its table cared for, or not. Self has a constructor from bytes that are known to be such
+// a record.
+template <class Self, std::uint8_t Full, std::uint8_t Partial, std::size_t Room> class Record {
 public:
     // Reads a record from anyone. Refusals: reading's, other_kind.
     static Result<Self> from_record(const std::uint8_t *bytes, std::size_t length) noexcept {
         const std::int64_t kind = threshold_kind(bytes, length);
-        if (kind != Kind) {
+        if (kind != Full && kind != Partial) {
             return kind < 0 ? refused(kind) : Refusal::other_kind;
         }
         return Self(bytes, length);
@@ -153,6 +161,9 @@ public:
     std::uint32_t inputs() const noexcept { return bytes_[1]; }
     std::uint32_t row_count() const noexcept { return std::uint32_t{1} << inputs(); }
 
+    // Whether some row is not cared for.
+    bool is_partial() const noexcept { return bytes_[0] == Partial; }
+
 protected:
     Record(const std::uint8_t *bytes, std::size_t length) noexcept : length_(static_cast<std::uint16_t>(length)) {
         std::copy_n(bytes, length, bytes_.begin());
@@ -166,20 +177,33 @@ protected:
         return Self(out.data(), static_cast<std::size_t>(length));
     }
 
-    // The value on a row, by the library.
-    Result<bool> value_on(std::uint32_t row) const noexcept {
-        const std::int64_t value = threshold_value(bytes_.data(), length_, row);
-        if (value < 0) {
-            return refused(value);
-        }
-        return value == 1;
-    }
-
-    bool checks() const noexcept { return threshold_check(bytes_.data(), length_) == 1; }
+    // The bytes of the values, which are as many as those of the cares.
+    std::size_t value_bytes() const noexcept { return (row_count() + 7) / 8; }
 
     std::array<std::uint8_t, Room> bytes_{};
     std::uint16_t length_;
 };
+
+// Makes tables and verdicts of records; defined below.
+struct Maker;
+
+// What a call says of yes or no, or its refusal.
+inline Result<bool> truth(std::int64_t returned) noexcept {
+    if (returned < 0) {
+        return refused(returned);
+    }
+    return returned == 1;
+}
+
+// The first words, up to four, and how many of them were there.
+template <class Iterator> std::pair<std::array<std::uint64_t, 4>, std::size_t> first_words(Iterator first, std::size_t count) noexcept {
+    std::array<std::uint64_t, 4> words{};
+    const std::size_t taken = std::min(count, words.size());
+    for (std::size_t place = 0; place < taken; ++place, ++first) {
+        words[place] = *first;
+    }
+    return {words, taken};
+}
 
 // Whether an iterator runs over unsigned words of 64 bits.
 template <class Iterator, class = void> struct IsOverWords : std::false_type {};
@@ -203,7 +227,10 @@ struct IsTable<TT, std::void_t<decltype(static_cast<std::uint64_t>(std::declval<
                        decltype(words_of(std::declval<const TT &>(), 0))>>
     : IsOverWords<decltype(words_of(std::declval<const TT &>(), 0).first)> {};
 
-template <class Self, std::uint8_t Kind, std::size_t Room> class TableWith;
+// The number of words between two iterators.
+template <class Words> std::size_t count_of(const Words &words) noexcept {
+    return static_cast<std::size_t>(std::distance(words.first, words.second));
+}
 
 template <class TT> using IfTable = std::enable_if_t<IsTable<TT>::value, int>;
 template <class Iterator> using IfOverWords = std::enable_if_t<IsOverWords<Iterator>::value, int>;
@@ -219,7 +246,7 @@ enum class InputKind : std::uint8_t {
     binate = THRESHOLD_INPUT_BINATE
 };
 
-class Table : public detail::Record<Table, THRESHOLD_RECORD_TABLE, detail::table_room> {
+class Table : public detail::Record<Table, THRESHOLD_RECORD_TABLE, THRESHOLD_RECORD_PARTIAL_TABLE, detail::table_room> {
 public:
     // The table of hex digits as ABC and kitty write them, the digit of the highest rows first. Refusals: inputs, digits, digit.
     static Result<Table> from_hex(std::uint32_t inputs, std::string_view digits) noexcept {
@@ -231,13 +258,19 @@ public:
     // Refusals: inputs, words.
     template <class Iterator, detail::IfOverWords<Iterator> = 0>
     static Result<Table> from_words(std::uint32_t inputs, Iterator first, std::size_t count) noexcept {
-        std::array<std::uint64_t, 4> words{};
-        const std::size_t taken = std::min(count, words.size());
-        for (std::size_t place = 0; place < taken; ++place, ++first) {
-            words[place] = *first;
-        }
+        const auto words = detail::first_words(first, count);
         detail::Answer out;
-        return made(out, threshold_from_words(inputs, words.data(), taken, out.data(), out.size()));
+        return made(out, threshold_from_words(inputs, words.first.data(), words.second, out.data(), out.size()));
+    }
+
+    // The same, of which the rows are cared for that `care_count` words laid out alike say. Refusals: inputs, words, care.
+    template <class Iterator, class Cares, detail::IfOverWords<Iterator> = 0, detail::IfOverWords<Cares> = 0>
+    static Result<Table> from_cares(std::uint32_t inputs, Iterator first, std::size_t count, Cares cares, std::size_t care_count) noexcept {
+        const auto words = detail::first_words(first, count);
+        const auto cared = detail::first_words(cares, care_count);
+        detail::Answer out;
+        return made(out, threshold_from_cares(inputs, words.first.data(), words.second, cared.first.data(), cared.second, out.data(),
+                             out.size()));
     }
 
     // The table of anything with num_vars() and an iterator over its words, as kitty's tables. Refusals: inputs, words.
@@ -247,12 +280,53 @@ public:
         if (inputs > 8) {
             return Refusal::inputs;
         }
-        const auto count = static_cast<std::size_t>(std::distance(words.first, words.second));
-        return from_words(static_cast<std::uint32_t>(inputs), words.first, count);
+        return from_words(static_cast<std::uint32_t>(inputs), words.first, detail::count_of(words));
     }
 
-    // The value on a row, behind `*`: as it stands the result says whether there is one. Refusals: row.
-    Result<bool> value(std::uint32_t row) const noexcept { return value_on(row); }
+    // The same, of which the rows are cared for that another such table, of as many inputs, says. Refusals: inputs (of the first), words
+    // (too few of either, or the other of another number of inputs), care.
+    template <class TT, class Cares, detail::IfTable<TT> = 0, detail::IfTable<Cares> = 0>
+    static Result<Table> of(const TT &table, const Cares &cares) noexcept {
+        const auto words = detail::words_of(table, 0);
+        const auto cared = detail::words_of(cares, 0);
+        const auto inputs = static_cast<std::uint64_t>(table.num_vars());
+        if (inputs > 8) {
+            return Refusal::inputs;
+        }
+        if (inputs != static_cast<std::uint64_t>(cares.num_vars())) {
+            return Refusal::words;
+        }
+        return from_cares(static_cast<std::uint32_t>(inputs), words.first, detail::count_of(words), cared.first, detail::count_of(cared));
+    }
+
+    // The value on a row, behind `*`: as it stands the result says whether there is one. False where the row is not cared for.
+    // Refusals: row.
+    Result<bool> value(std::uint32_t row) const noexcept { return detail::truth(threshold_value(bytes_.data(), length_, row)); }
+
+    // Whether a row is cared for, behind `*`. Refusals: row.
+    Result<bool> cares_for(std::uint32_t row) const noexcept {
+        if (row >= row_count()) {
+            return Refusal::row;
+        }
+        return !is_partial() || (bytes_[2 + value_bytes() + row / 8] >> row % 8 & 1) == 1;
+    }
+
+    // Whether a gate of these numbers, from anyone, agrees on every row that is cared for, behind `*`. Refusals: numbers, gate.
+    Result<bool> check_gate(const std::int32_t *weights, std::size_t count, std::int32_t threshold) const noexcept {
+        return detail::truth(threshold_check_gate(bytes_.data(), length_, weights, count, threshold));
+    }
+
+    // Whether a witness of these counts, from anyone, balances, behind `*`. Refusals: numbers, row_list.
+    Result<bool> check_witness(const std::uint32_t *counts, std::size_t count) const noexcept {
+        return detail::truth(threshold_check_witness(bytes_.data(), length_, counts, count));
+    }
+
+    // The table of the same values with every row cared for: a row that was not cared for becomes a false one.
+    Table with_every_row() const noexcept {
+        std::array<std::uint8_t, detail::table_room> bytes = bytes_;
+        bytes[0] = THRESHOLD_RECORD_TABLE;
+        return Table(bytes.data(), 2 + value_bytes());
+    }
 
     // The kind of each input.
     List<InputKind, 8> kinds() const noexcept {
@@ -276,107 +350,120 @@ public:
 
 private:
     friend Record;
-    template <class Self, std::uint8_t Kind, std::size_t Room> friend class detail::TableWith;
+    friend struct detail::Maker;
     Table(const std::uint8_t *bytes, std::size_t length) noexcept : Record(bytes, length) {}
 };
 
 // ---- gates, witnesses and jobs
 
-namespace detail {
-
-// A record of a table with something that follows it.
-template <class Self, std::uint8_t Kind, std::size_t Room> class TableWith : public Record<Self, Kind, Room> {
-public:
-    Table table() const noexcept {
-        std::array<std::uint8_t, table_room> bytes{};
-        const std::size_t length = 2 + (this->row_count() + 7) / 8;
-        std::copy_n(this->bytes_.begin(), length, bytes.begin());
-        bytes[0] = THRESHOLD_RECORD_TABLE;
-        return Table(bytes.data(), length);
-    }
-
-protected:
-    using Record<Self, Kind, Room>::Record;
-};
-
-} // namespace detail
-
-class Gate;
-class Witness;
-class Job;
 struct Outcome;
 
-// A gate with the values of the table on every row; or a balanced witness, after which it has no gate; or an open job, given up so far.
-using Verdict = std::variant<Gate, Witness, Job>;
-
-namespace detail {
-// What a call on jobs has written, by its kind.
-Verdict verdict_of(const Answer &out, std::int64_t length) noexcept;
-} // namespace detail
-
 // A table with a gate for it, which is true on a row where the weights of the true inputs add up to at least the threshold.
-class Gate : public detail::TableWith<Gate, THRESHOLD_RECORD_GATE, detail::gate_room> {
+class Gate {
 public:
+    using Record = List<std::uint8_t, detail::gate_room>;
+
     // A gate from anyone, to be checked: a weight for each input, and T. Refusals: numbers, gate.
     static Result<Gate> from(const Table &table, const std::int32_t *weights, std::size_t count, std::int32_t threshold) noexcept {
-        detail::Answer out;
-        const Bytes record = table.record();
-        return made(out, threshold_from_gate(record.data(), record.size(), weights, count, threshold, out.data(), out.size()));
+        const auto checked = table.check_gate(weights, count, threshold);
+        if (!checked) {
+            return checked.refusal();
+        }
+        std::array<std::int32_t, 8> numbers{};
+        std::copy_n(weights, count, numbers.begin());
+        return Gate(table, numbers, threshold);
     }
+
+    // Reads a record (kind 2) from anyone. Refusals: reading's, other_kind.
+    static Result<Gate> from_record(const std::uint8_t *bytes, std::size_t length) noexcept;
+
+    // The record (kind 2), to be kept or sent. Refusals: care, where a row of the table is not cared for, since no record carries it.
+    Result<Record> record() const noexcept;
+
+    const Table &table() const noexcept { return table_; }
+    std::uint32_t inputs() const noexcept { return table_.inputs(); }
+    std::uint32_t row_count() const noexcept { return table_.row_count(); }
 
     // The weights, from input 1 on, and T.
-    List<std::int32_t, 8> weights() const noexcept { return numbers().first; }
-    std::int32_t threshold() const noexcept { return numbers().second; }
+    List<std::int32_t, 8> weights() const noexcept { return List<std::int32_t, 8>(weights_, inputs()); }
+    std::int32_t threshold() const noexcept { return threshold_; }
 
-    // Whether the gate has the table's value on every row: true of a verdict's gate.
-    bool check() const noexcept { return checks(); }
+    // Whether the gate has the table's value on every row that is cared for: true of a verdict's gate.
+    bool check() const noexcept { return *table_.check_gate(weights_.data(), inputs(), threshold_); }
 
-    // The gate's value on a row, behind `*`. Refusals: row.
-    Result<bool> value(std::uint32_t row) const noexcept { return value_on(row); }
+    // The gate's value on a row, cared for or not, behind `*`. Refusals: row.
+    Result<bool> value(std::uint32_t row) const noexcept {
+        // The value is the gate's alone, so a record of it with every row cared for will do.
+        const auto gate = Gate(table_.with_every_row(), weights_, threshold_).record();
+        return detail::truth(threshold_value(gate->data(), gate->size(), row));
+    }
+
+    friend bool operator==(const Gate &one, const Gate &other) noexcept {
+        return one.table_ == other.table_ && one.weights_ == other.weights_ && one.threshold_ == other.threshold_;
+    }
+    friend bool operator!=(const Gate &one, const Gate &other) noexcept { return !(one == other); }
 
 private:
-    friend Record;
-    friend Verdict detail::verdict_of(const detail::Answer &out, std::int64_t length) noexcept;
-    Gate(const std::uint8_t *bytes, std::size_t length) noexcept : TableWith(bytes, length) {}
+    friend struct detail::Maker;
+    Gate(const Table &table, const std::array<std::int32_t, 8> &weights, std::int32_t threshold) noexcept
+        : table_(table), weights_(weights), threshold_(threshold) {}
 
-    std::pair<List<std::int32_t, 8>, std::int32_t> numbers() const noexcept {
-        std::array<std::int32_t, 8> weights{};
-        std::int32_t threshold = 0;
-        threshold_gate(bytes_.data(), length_, weights.data(), weights.size(), &threshold);
-        return {List<std::int32_t, 8>(weights, inputs()), threshold};
-    }
+    Table table_;
+    std::array<std::int32_t, 8> weights_; // past the inputs 0
+    std::int32_t threshold_;
 };
 
 // A table with a witness against it: a count for each row. It balances if the true rows and the false rows, each as often as it counts, are
-// equally many and hold each input equally often.
-class Witness : public detail::TableWith<Witness, THRESHOLD_RECORD_WITNESS, detail::witness_room> {
+// equally many and hold each input equally often, and no row has a count that is not cared for.
+class Witness {
 public:
+    using Record = List<std::uint8_t, detail::witness_room>;
+
     // A witness from anyone, to be checked: a count for each row. Refusals: numbers, row_list.
     static Result<Witness> from(const Table &table, const std::uint32_t *counts, std::size_t count) noexcept {
-        detail::Answer out;
-        const Bytes record = table.record();
-        return made(out, threshold_from_witness(record.data(), record.size(), counts, count, out.data(), out.size()));
+        const auto checked = table.check_witness(counts, count);
+        if (!checked) {
+            return checked.refusal();
+        }
+        std::array<std::uint32_t, 256> numbers{};
+        std::copy_n(counts, count, numbers.begin());
+        return Witness(table, numbers);
     }
+
+    // Reads a record (kind 3) from anyone. Refusals: reading's, other_kind.
+    static Result<Witness> from_record(const std::uint8_t *bytes, std::size_t length) noexcept;
+
+    // The record (kind 3), to be kept or sent. Refusals: care, where a row of the table is not cared for, since no record carries it.
+    Result<Record> record() const noexcept;
+
+    const Table &table() const noexcept { return table_; }
+    std::uint32_t inputs() const noexcept { return table_.inputs(); }
+    std::uint32_t row_count() const noexcept { return table_.row_count(); }
 
     // The count of each row, from row 0 on.
-    List<std::uint32_t, 256> counts() const noexcept {
-        std::array<std::uint32_t, 256> counts{};
-        threshold_witness(bytes_.data(), length_, counts.data(), counts.size());
-        return List<std::uint32_t, 256>(counts, row_count());
-    }
+    List<std::uint32_t, 256> counts() const noexcept { return List<std::uint32_t, 256>(counts_, table_.row_count()); }
 
     // Whether the witness balances, so that the table has no gate: true of a verdict's witness.
-    bool check() const noexcept { return checks(); }
+    bool check() const noexcept { return *table_.check_witness(counts_.data(), table_.row_count()); }
+
+    friend bool operator==(const Witness &one, const Witness &other) noexcept {
+        return one.table_ == other.table_ && one.counts_ == other.counts_;
+    }
+    friend bool operator!=(const Witness &one, const Witness &other) noexcept { return !(one == other); }
 
 private:
-    friend Record;
-    friend Verdict detail::verdict_of(const detail::Answer &out, std::int64_t length) noexcept;
-    Witness(const std::uint8_t *bytes, std::size_t length) noexcept : TableWith(bytes, length) {}
+    friend struct detail::Maker;
+    Witness(const Table &table, const std::array<std::uint32_t, 256> &counts) noexcept : table_(table), counts_(counts) {}
+
+    Table table_;
+    std::array<std::uint32_t, 256> counts_; // past the rows 0
 };
 
 // A table with an open job, to be kept and carried on.
-class Job : public detail::TableWith<Job, THRESHOLD_RECORD_JOB, detail::job_room> {
+class Job : public detail::Record<Job, THRESHOLD_RECORD_JOB, THRESHOLD_RECORD_PARTIAL_JOB, detail::job_room> {
 public:
+    Table table() const noexcept;
+
     // The corrections made so far, K.
     std::uint32_t corrections() const noexcept { return static_cast<std::uint32_t>(threshold_corrections(bytes_.data(), length_)); }
 
@@ -385,11 +472,15 @@ public:
 
 private:
     friend Record;
-    friend Verdict detail::verdict_of(const detail::Answer &out, std::int64_t length) noexcept;
-    Job(const std::uint8_t *bytes, std::size_t length) noexcept : TableWith(bytes, length) {}
+    friend struct detail::Maker;
+    Job(const std::uint8_t *bytes, std::size_t length) noexcept : Record(bytes, length) {}
 };
 
 // ---- verdicts
+
+// A gate with the values of the table on every row that is cared for; or a balanced witness, after which it has no gate; or an open job,
+// given up so far.
+using Verdict = std::variant<Gate, Witness, Job>;
 
 // A verdict, and the corrections made by the call that gave it.
 struct Outcome {
@@ -397,13 +488,115 @@ struct Outcome {
     std::uint32_t made;
 };
 
-inline Verdict detail::verdict_of(const Answer &out, std::int64_t length) noexcept {
-    const auto size = static_cast<std::size_t>(length);
-    switch (out[0]) {
-    case THRESHOLD_RECORD_GATE: return Gate(out.data(), size);
-    case THRESHOLD_RECORD_WITNESS: return Witness(out.data(), size);
-    default: return Job(out.data(), size);
+namespace detail {
+
+struct Maker {
+    // The table with which a record of any kind begins, which is whole and right.
+    static Table table(const std::uint8_t *record) noexcept {
+        const bool partial = record[0] >= THRESHOLD_RECORD_PARTIAL_TABLE;
+        const std::size_t bits = ((std::size_t{1} << record[1]) + 7) / 8, length = 2 + (partial ? 2 : 1) * bits;
+        std::array<std::uint8_t, table_room> bytes{};
+        std::copy_n(record, length, bytes.begin());
+        bytes[0] = partial ? THRESHOLD_RECORD_PARTIAL_TABLE : THRESHOLD_RECORD_TABLE;
+        return Table(bytes.data(), length);
     }
+
+    // The gate of a record of kind 2.
+    static Gate gate(const std::uint8_t *record, std::size_t length) noexcept {
+        std::array<std::int32_t, 8> weights{};
+        std::int32_t threshold = 0;
+        threshold_gate(record, length, weights.data(), weights.size(), &threshold);
+        return Gate(table(record), weights, threshold);
+    }
+
+    // The witness of a record of kind 3.
+    static Witness witness(const std::uint8_t *record, std::size_t length) noexcept {
+        std::array<std::uint32_t, 256> counts{};
+        threshold_witness(record, length, counts.data(), counts.size());
+        return Witness(table(record), counts);
+    }
+
+    // The verdict of a record of kind 2, 3, 4 or 6.
+    static Verdict verdict(const Answer &out, std::int64_t returned) noexcept {
+        const auto length = static_cast<std::size_t>(returned);
+        switch (out[0]) {
+        case THRESHOLD_RECORD_GATE: return gate(out.data(), length);
+        case THRESHOLD_RECORD_WITNESS: return witness(out.data(), length);
+        default: return Job(out.data(), length);
+        }
+    }
+
+    // The gate or the witness with which the job of a record ends within the budget.
+    static Outcome found(const Bytes &job, std::uint32_t budget) noexcept {
+        std::array<std::int32_t, 8> weights{};
+        std::array<std::uint32_t, 256> counts{};
+        std::int32_t threshold = 0;
+        std::uint32_t made = 0;
+        if (threshold_find_gate(job.data(), job.size(), budget, weights.data(), weights.size(), &threshold, &made) >= 0) {
+            return {Gate(table(job.data()), weights, threshold), made};
+        }
+        threshold_find_witness(job.data(), job.size(), budget, counts.data(), counts.size(), &made);
+        return {Witness(table(job.data()), counts), made};
+    }
+
+    // What a call on the job of a record has written and made within the budget; where no record carries that, what the job ends with.
+    static Result<Outcome> outcome(const Bytes &job, std::uint32_t budget, const Answer &out, std::int64_t length,
+        std::uint32_t made) noexcept {
+        if (length == -THRESHOLD_REFUSED_CARE) {
+            return found(job, budget);
+        }
+        if (length < 0) {
+            return refused(length);
+        }
+        return Outcome{verdict(out, length), made};
+    }
+};
+
+// The bytes that a call has written, or its refusal.
+template <std::size_t Room>
+Result<List<std::uint8_t, Room>> written(const std::array<std::uint8_t, Room> &out, std::int64_t length) noexcept {
+    if (length < 0) {
+        return refused(length);
+    }
+    return List<std::uint8_t, Room>(out, static_cast<std::size_t>(length));
+}
+
+} // namespace detail
+
+inline Result<Gate> Gate::from_record(const std::uint8_t *bytes, std::size_t length) noexcept {
+    const std::int64_t kind = threshold_kind(bytes, length);
+    if (kind != THRESHOLD_RECORD_GATE) {
+        return kind < 0 ? detail::refused(kind) : Refusal::other_kind;
+    }
+    return detail::Maker::gate(bytes, length);
+}
+
+inline Result<Gate::Record> Gate::record() const noexcept {
+    std::array<std::uint8_t, detail::gate_room> out{};
+    const Bytes table = table_.record();
+    const std::int64_t length =
+        threshold_from_gate(table.data(), table.size(), weights_.data(), inputs(), threshold_, out.data(), out.size());
+    return detail::written(out, length);
+}
+
+inline Result<Witness> Witness::from_record(const std::uint8_t *bytes, std::size_t length) noexcept {
+    const std::int64_t kind = threshold_kind(bytes, length);
+    if (kind != THRESHOLD_RECORD_WITNESS) {
+        return kind < 0 ? detail::refused(kind) : Refusal::other_kind;
+    }
+    return detail::Maker::witness(bytes, length);
+}
+
+inline Result<Witness::Record> Witness::record() const noexcept {
+    std::array<std::uint8_t, detail::witness_room> out{};
+    const Bytes table = table_.record();
+    const std::int64_t length =
+        threshold_from_witness(table.data(), table.size(), counts_.data(), table_.row_count(), out.data(), out.size());
+    return detail::written(out, length);
+}
+
+inline Table Job::table() const noexcept {
+    return detail::Maker::table(bytes_.data());
 }
 
 // Decides a table within 100,000 corrections.
@@ -412,7 +605,7 @@ inline Outcome decide(const Table &table) noexcept {
     std::uint32_t made = 0;
     const Bytes record = table.record();
     const std::int64_t length = threshold_decide(record.data(), record.size(), out.data(), out.size(), &made);
-    return {detail::verdict_of(out, length), made};
+    return *detail::Maker::outcome(record, THRESHOLD_CALL_BUDGET, out, length, made);
 }
 
 // Decides the table of `count` words. Refusals: those of Table::from_words.
@@ -434,21 +627,30 @@ template <class TT, detail::IfTable<TT> = 0> Result<Outcome> decide(const TT &wo
     return decide(*table);
 }
 
-// The fresh job of a table, to be carried on by budgets of one's own; or its witness, if an input is binate.
+// The same on the rows that another such table, of as many inputs, says are cared for.
+template <class TT, class Cares, detail::IfTable<TT> = 0, detail::IfTable<Cares> = 0>
+Result<Outcome> decide(const TT &words, const Cares &cares) noexcept {
+    const Result<Table> table = Table::of(words, cares);
+    if (!table) {
+        return table.refusal();
+    }
+    return decide(*table);
+}
+
+// The fresh job of a table, to be carried on by budgets of one's own; or its witness, if an input is binate; or a gate of weights 0, if no
+// row is cared for.
 inline Verdict fresh(const Table &table) noexcept {
     detail::Answer out;
     const Bytes record = table.record();
-    return detail::verdict_of(out, threshold_fresh(record.data(), record.size(), out.data(), out.size()));
+    const std::int64_t length = threshold_fresh(record.data(), record.size(), out.data(), out.size());
+    return (*detail::Maker::outcome(record, 1, out, length, 0)).verdict; // a fresh job that has ended stays so under any budget
 }
 
 inline Result<Outcome> Job::carry_on(std::uint32_t budget) const noexcept {
     detail::Answer out;
     std::uint32_t made = 0;
     const std::int64_t length = threshold_carry_on(bytes_.data(), length_, budget, out.data(), out.size(), &made);
-    if (length < 0) {
-        return detail::refused(length);
-    }
-    return Outcome{detail::verdict_of(out, length), made};
+    return detail::Maker::outcome(record(), budget, out, length, made);
 }
 
 } // namespace threshold

@@ -19,9 +19,9 @@ enum { LINE_MOST = 512, NUMBERS_MOST = 300, TEXT_MOST = 1 << 17, REFUSALS = 128 
 /* ---- what a call is given */
 
 /* Each word but the record and the digits comes before its numbers. */
-enum section { RECORD, INPUTS, WORDS, WEIGHTS, T, COUNTS, BUDGET, ROW, ROOM, KIND, SECTIONS };
-static const char *const section_words[SECTIONS] = {[WEIGHTS] = "weights", [T] = "T", [COUNTS] = "counts", [BUDGET] = "budget",
-    [ROW] = "row", [ROOM] = "room"};
+enum section { RECORD, INPUTS, WORDS, CARES, WEIGHTS, T, COUNTS, BUDGET, ROW, ROOM, KIND, SECTIONS };
+static const char *const section_words[SECTIONS] = {[CARES] = "cares", [WEIGHTS] = "weights", [T] = "T", [COUNTS] = "counts",
+    [BUDGET] = "budget", [ROW] = "row", [ROOM] = "room"};
 
 typedef struct {
     size_t count;
@@ -33,6 +33,7 @@ static struct {
     char digits[LINE_MOST];
     uint8_t record[NUMBERS_MOST];
     uint64_t words[NUMBERS_MOST];
+    uint64_t cares[NUMBERS_MOST];
     int32_t weights[NUMBERS_MOST];
     uint32_t counts[NUMBERS_MOST];
 } given;
@@ -65,11 +66,24 @@ static int64_t from_hex(void) {
     return threshold_from_hex((uint32_t)number(INPUTS), length ? given.digits : NULL, length, LENT_BYTES);
 }
 static int64_t from_words(void) { return threshold_from_words((uint32_t)number(INPUTS), ARRAY(words, WORDS), LENT_BYTES); }
+static int64_t from_cares(void) {
+    return threshold_from_cares((uint32_t)number(INPUTS), ARRAY(words, WORDS), ARRAY(cares, CARES), LENT_BYTES);
+}
 static int64_t decide(void) { return threshold_decide(GIVEN_RECORD, LENT_BYTES, &lent.made); }
 static int64_t carry_on(void) { return threshold_carry_on(GIVEN_RECORD, (uint32_t)number(BUDGET), LENT_BYTES, &lent.made); }
 static int64_t fresh(void) { return threshold_fresh(GIVEN_RECORD, LENT_BYTES); }
 static int64_t corrections(void) { return threshold_corrections(GIVEN_RECORD); }
+static int64_t find_gate(void) {
+    return threshold_find_gate(GIVEN_RECORD, (uint32_t)number(BUDGET), LENT(weights, 8), &lent.threshold, &lent.made);
+}
+static int64_t find_witness(void) {
+    return threshold_find_witness(GIVEN_RECORD, (uint32_t)number(BUDGET), LENT(counts, 256), &lent.made);
+}
 static int64_t check(void) { return threshold_check(GIVEN_RECORD); }
+static int64_t check_gate(void) {
+    return threshold_check_gate(GIVEN_RECORD, ARRAY(weights, WEIGHTS), (int32_t)(int64_t)number(T));
+}
+static int64_t check_witness(void) { return threshold_check_witness(GIVEN_RECORD, ARRAY(counts, COUNTS)); }
 static int64_t gate(void) { return threshold_gate(GIVEN_RECORD, LENT(weights, 8), &lent.threshold); }
 static int64_t witness(void) { return threshold_witness(GIVEN_RECORD, LENT(counts, 256)); }
 static int64_t from_gate(void) {
@@ -92,20 +106,34 @@ static size_t put_number(uint8_t *out, uint32_t x) {
     return length;
 }
 
-/* The longest job: at the cap, of the table that is nowhere true, with a count of every row. Of 475,712 corrections since the mark 27 rows
- * can have three groups, and all others two. s is 600,000 for each input and -600,000 for b, so that row 0 fails. */
-static size_t put_longest_job(uint8_t *job) {
-    static const uint8_t head[34] = {THRESHOLD_RECORD_JOB, 8};
+/* The counts of the longest job, the first of which has what the others leave: of 475,712 corrections since the mark 27 rows can have three
+ * groups, and all others two. Row 1 has none where it is not cared for. */
+static void make_counts(uint32_t *counts, uint32_t since, int partial) {
+    uint32_t left = since;
+    for (uint32_t row = 1; row < 256; row++) {
+        counts[row] = partial && row == 1 ? 0 : row < (partial ? 28u : 27u) ? 16384 : 128;
+        left -= counts[row];
+    }
+    counts[0] = left;
+}
+
+/* The longest job: at the cap, of the table that is nowhere true, with a count of every row, or of every row but one that is not cared for.
+ * s is 600,000 for each input and -600,000 for b, so that row 0 fails. */
+static size_t put_longest_job(uint8_t *job, int partial) {
     const uint32_t since = THRESHOLD_CAP - (1u << 19), size = 600000;
     uint32_t counts[256], sums[9] = {0};
+    make_counts(counts, since, partial);
     for (uint32_t row = 0; row < 256; row++) {
-        counts[row] = row == 0 ? since - 26 * 16384 - 229 * 128 : row < 27 ? 16384 : 128;
         for (int input = 0; input < 8; input++) {
             sums[input] += row >> input & 1 ? counts[row] : 0;
         }
     }
-    size_t at = sizeof head;
-    memcpy(job, head, at);
+    size_t at = partial ? 66 : 34;
+    memset(job, 0, 34);
+    memset(job + 34, 0xff, at - 34);
+    job[0] = partial ? THRESHOLD_RECORD_PARTIAL_JOB : THRESHOLD_RECORD_JOB;
+    job[1] = 8;
+    job[34] = 0xfd; /* row 1 is not cared for; without cares, the first byte of K */
     at += put_number(job + at, THRESHOLD_CAP);
     for (int input = 0; input < 8; input++) {
         at += put_number(job + at, 2 * (size - sums[input]));
@@ -115,10 +143,12 @@ static size_t put_longest_job(uint8_t *job) {
         at += put_number(job + at, 2 * size);
     }
     at += put_number(job + at, 2 * size - 1);
-    at += put_number(job + at, 256);
+    at += put_number(job + at, partial ? 255 : 256);
     for (uint32_t row = 0; row < 256; row++) {
-        at += put_number(job + at, row);
-        at += put_number(job + at, counts[row]);
+        if (counts[row] != 0) {
+            at += put_number(job + at, row);
+            at += put_number(job + at, counts[row]);
+        }
     }
     return at;
 }
@@ -126,7 +156,7 @@ static size_t put_longest_job(uint8_t *job) {
 /* The length of the longest record of a kind, which the library takes. */
 static int64_t longest(void) {
     uint8_t table[THRESHOLD_ROOM], record[THRESHOLD_ROOM];
-    const uint64_t words[4] = {0};
+    const uint64_t words[4] = {0}, cares[4] = {0};
     int32_t weights[8];
     uint32_t counts[256];
     for (int input = 0; input < 8; input++) {
@@ -143,8 +173,10 @@ static int64_t longest(void) {
         length = threshold_from_gate(table, (size_t)length, weights, 8, -1000000, record, sizeof record);
     } else if (kind == THRESHOLD_RECORD_WITNESS) {
         length = threshold_from_witness(table, (size_t)length, counts, 256, record, sizeof record);
+    } else if (kind == THRESHOLD_RECORD_PARTIAL_TABLE) {
+        length = threshold_from_cares(8, words, 4, cares, 4, record, sizeof record);
     } else {
-        length = (int64_t)put_longest_job(record);
+        length = (int64_t)put_longest_job(record, kind == THRESHOLD_RECORD_PARTIAL_JOB);
     }
     return length > 0 && threshold_kind(record, (size_t)length) == kind ? length : 0;
 }
@@ -155,18 +187,23 @@ typedef struct {
     const char *name;
     int64_t (*run)(void);
     enum section first; /* where the numbers before any word go */
-    enum { VALUE, BYTES, BYTES_AND_MADE, GATE, WITNESS } writes;
+    enum { VALUE, BYTES, BYTES_AND_MADE, GATE, GATE_AND_MADE, WITNESS, WITNESS_AND_MADE } writes;
     char refusals[64];    /* as the header names them; of "longest", which is no call, none */
     char shown[REFUSALS]; /* whether an example is refused by a number; at 0, whether one is answered */
 } Call;
 static Call calls[] = {
     {"from_hex", from_hex, INPUTS, BYTES, "", {0}},
     {"from_words", from_words, INPUTS, BYTES, "", {0}},
+    {"from_cares", from_cares, INPUTS, BYTES, "", {0}},
     {"decide", decide, RECORD, BYTES_AND_MADE, "", {0}},
     {"carry_on", carry_on, RECORD, BYTES_AND_MADE, "", {0}},
     {"fresh", fresh, RECORD, BYTES, "", {0}},
     {"corrections", corrections, RECORD, VALUE, "", {0}},
+    {"find_gate", find_gate, RECORD, GATE_AND_MADE, "", {0}},
+    {"find_witness", find_witness, RECORD, WITNESS_AND_MADE, "", {0}},
     {"check", check, RECORD, VALUE, "", {0}},
+    {"check_gate", check_gate, RECORD, VALUE, "", {0}},
+    {"check_witness", check_witness, RECORD, VALUE, "", {0}},
     {"gate", gate, RECORD, GATE, "", {0}},
     {"witness", witness, RECORD, WITNESS, "", {0}},
     {"from_gate", from_gate, RECORD, BYTES, "", {0}},
@@ -221,8 +258,9 @@ static void take(int line, enum section section, const char *token) {
     if (numbers->count == NUMBERS_MOST) {
         fail(line, "too many numbers");
     }
-    numbers->at[numbers->count++] = strtoull(token, &end, section == RECORD || section == WORDS ? 16 : 10);
-    if (*end || (section == RECORD && strlen(token) != 2) || (section == WORDS && strncmp(token, "0x", 2))) {
+    const int is_word = section == WORDS || section == CARES;
+    numbers->at[numbers->count++] = strtoull(token, &end, section == RECORD || is_word ? 16 : 10);
+    if (*end || (section == RECORD && strlen(token) != 2) || (is_word && strncmp(token, "0x", 2))) {
         fail(line, "'%s' is no number of its place", token);
     }
 }
@@ -232,6 +270,7 @@ static void spread(void) {
     for (size_t i = 0; i < NUMBERS_MOST; i++) {
         given.record[i] = (uint8_t)given.numbers[RECORD].at[i];
         given.words[i] = given.numbers[WORDS].at[i];
+        given.cares[i] = given.numbers[CARES].at[i];
         given.weights[i] = (int32_t)(int64_t)given.numbers[WEIGHTS].at[i];
         given.counts[i] = (uint32_t)given.numbers[COUNTS].at[i];
     }
@@ -281,13 +320,13 @@ static void show(const Call *call, int64_t said, char *answer) {
         add(answer, "refused by %" PRId64, -said);
     } else if (call->writes == VALUE) {
         add(answer, "%" PRId64, said);
-    } else if (call->writes == GATE) {
+    } else if (call->writes == GATE || call->writes == GATE_AND_MADE) {
         add(answer, "weights");
         for (int64_t i = 0; i < said; i++) {
             add(answer, " %" PRId32, before.weights[i] = lent.weights[i]);
         }
         add(answer, " T %" PRId32, before.threshold = lent.threshold);
-    } else if (call->writes == WITNESS) {
+    } else if (call->writes == WITNESS || call->writes == WITNESS_AND_MADE) {
         add(answer, "counts");
         for (int64_t i = 0; i < said; i++) {
             add(answer, " %" PRIu32, before.counts[i] = lent.counts[i]);
@@ -296,9 +335,9 @@ static void show(const Call *call, int64_t said, char *answer) {
         for (int64_t i = 0; i < said; i++) {
             add(answer, i ? " %02x" : "%02x", before.bytes[i] = lent.bytes[i]);
         }
-        if (call->writes == BYTES_AND_MADE) {
-            add(answer, " made %" PRIu32, before.made = lent.made);
-        }
+    }
+    if (said >= 0 && (call->writes == BYTES_AND_MADE || call->writes == GATE_AND_MADE || call->writes == WITNESS_AND_MADE)) {
+        add(answer, " made %" PRIu32, before.made = lent.made);
     }
 }
 

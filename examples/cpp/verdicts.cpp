@@ -1,5 +1,5 @@
 // Decides tables given as hex digits, as words, and as a type with num_vars() and words, as kitty's tables are; keeps an open job as bytes
-// and carries it on; and checks gates from elsewhere.
+// and carries it on; checks gates from elsewhere; and decides tables of which some rows never occur.
 #include <cstdint>
 #include <iostream>
 #include <type_traits>
@@ -70,6 +70,51 @@ void check(const Table &majority, std::int32_t threshold) {
     }
 }
 
+// A gate is kept as its record, if it has one.
+void keep(const char *name, const Gate &gate) {
+    const auto record = gate.record();
+    if (!record) {
+        std::cout << name << ": no record, " << threshold::text(record.refusal()) << '\n';
+        return;
+    }
+    const auto again = Gate::from_record(record->data(), record->size());
+    std::cout << name << ": " << record->size() << " bytes, " << (again && *again == gate ? "read back\n" : "not read back\n");
+}
+
+// XOR of two inputs, of which not both are ever true; the slow table without row 0; and a gate for source document 002's example.
+void partial(const Table &slow) {
+    const auto never_both = threshold::decide(TruthTable{2, {0x6}}, TruthTable{2, {0x7}});
+    print("xor, never both", never_both);
+    if (const Gate *gate = never_both ? std::get_if<Gate>(&never_both->verdict) : nullptr) {
+        std::cout << "row 3: cared for " << *gate->table().cares_for(3) << ", the table's " << *gate->table().value(3) << ", the gate's "
+                  << *gate->value(3) << '\n';
+        keep("its gate", *gate);
+    }
+    const std::uint64_t values[] = {0x06}, cares[] = {0x0f}, words[] = {0xe0}, but_one[] = {0xf7};
+    if (const auto half = Table::from_cares(3, values, 1, cares, 1)) {
+        print("xor, where input 3 is false", threshold::decide(*half));
+    }
+    const auto example = Table::from_cares(3, words, 1, but_one, 1);
+    const std::int32_t weights[] = {1, 1, 1};
+    if (example) {
+        std::cout << "1 1 1, T 2, row 3 free: " << (*example->check_gate(weights, 3, 2) ? "agrees\n" : "differs\n");
+        std::cout << "1 1 1, T 2, row 3 false: " << (*example->with_every_row().check_gate(weights, 3, 2) ? "agrees\n" : "differs\n");
+    }
+    std::cout << "a value on a free row: " << threshold::text(Table::from_cares(3, words, 1, cares, 1).refusal()) << '\n';
+    print("cares for two inputs of three", threshold::decide(TruthTable{3, {0xe0}}, TruthTable{2, {0x7}}));
+
+    std::vector<std::uint64_t> slow_words(4), all_but_row_0 = {~std::uint64_t{1}, ~std::uint64_t{0}, ~std::uint64_t{0}, ~std::uint64_t{0}};
+    for (std::uint32_t row = 0; row < slow.row_count(); ++row) {
+        slow_words[row / 64] |= std::uint64_t{*slow.value(row)} << row % 64;
+    }
+    const auto open = threshold::decide(TruthTable{8, slow_words}, TruthTable{8, all_but_row_0});
+    print("slow, row 0 free", open);
+    if (const Job *job = open ? std::get_if<Job>(&open->verdict) : nullptr) {
+        carry_on(*job);
+        std::cout << "the job's table: " << (job->table().is_partial() ? "partial\n" : "full\n");
+    }
+}
+
 int main() {
     const auto majority = Table::from_hex(3, "e8");
     if (!majority) {
@@ -78,6 +123,10 @@ int main() {
     print("majority", threshold::decide(*majority));
     check(*majority, 2);
     check(*majority, 3);
+    const auto outcome = threshold::decide(*majority);
+    if (const Gate *gate = std::get_if<Gate>(&outcome.verdict)) {
+        keep("its gate", *gate);
+    }
 
     const std::uint64_t words[] = {0xa0a0000000000000, 0xa8a0808080800000, 0xeaeaa8a0a0a08000, 0xfffffaaae8a8a0a0};
     const auto slow = threshold::decide(8, words, 4);
@@ -95,4 +144,7 @@ int main() {
     print("too few words", threshold::decide(8, words, 3));
     std::cout << "e: " << threshold::text(Table::from_hex(3, "e").refusal()) << '\n';
     std::cout << "e?: " << threshold::text(Table::from_hex(3, "e?").refusal()) << '\n';
+    if (const auto table = Table::from_words(8, words, 4)) {
+        partial(*table);
+    }
 }

@@ -1,7 +1,7 @@
 //! Times the wrapper, one core: microseconds for a table by n, and the cost of many small budgets. Each result is checked.
 
 use differential::random::Random;
-use differential::tables::{table, Family};
+use differential::tables::{partial_table, table, Family};
 use std::time::Instant;
 use threshold::{SavedJob, Table, Verdict};
 
@@ -10,10 +10,10 @@ const ROUNDS: usize = 5;
 
 fn main() {
     println!("microseconds for a table, best of {ROUNDS}");
-    println!("   n  threshold      unate     random");
+    println!("   n  threshold      unate     random  threshold with rows not cared for");
     for n in 1..=8 {
         let times = [Family::Threshold, Family::Unate, Family::Random].map(|family| time_of_deciding(family, n));
-        println!("{n:4} {:10.2} {:10.2} {:10.2}", times[0], times[1], times[2]);
+        println!("{n:4} {:10.2} {:10.2} {:10.2} {:10.2}", times[0], times[1], times[2], time_of_partial(n));
     }
     println!("microseconds for a gate of eight inputs by the budget of each call, its job saved and read between");
     println!("budget       time");
@@ -50,6 +50,12 @@ fn holds(verdict: &Verdict) -> bool {
 
 fn time_of_deciding(family: Family, n: usize) -> f64 {
     best(&tables(family, n, 2_000), |table| table.decide().verdict)
+}
+
+fn time_of_partial(n: usize) -> f64 {
+    let mut random = Random(n as u64);
+    let table = |_| Table::from_record(&partial_table(&mut random, Family::Threshold, n)).expect("a table");
+    best(&(0..2_000).map(table).collect::<Vec<Table>>(), |table| table.decide().verdict)
 }
 
 fn time_of_budgets(budget: u32) -> f64 {

@@ -36,17 +36,28 @@ impl Certificate {
     /// The record, or why there is none: a witness's record has a count for each row, and the table says on which side that is.
     pub fn record(&self) -> Result<Vec<u8>, String> {
         match self {
-            Certificate::Gate(gate) => Ok(gate.record().to_vec()),
+            Certificate::Gate(gate) => gate.record().map(<[u8]>::to_vec).map_err(unrecorded),
             Certificate::Lists(table, sides) => match misplaced(table, sides) {
                 Some(why) => Err(why),
-                None => witness(table, sides).map(|witness| witness.record().to_vec()),
+                None => witness(table, sides)?.record().map(<[u8]>::to_vec).map_err(unrecorded),
             },
         }
     }
 }
 
-/// The first row that stands on a wrong side, in words.
+/// Why a gate or a witness has no record, in words.
+fn unrecorded(refusal: Refusal) -> String {
+    match refusal {
+        Refusal::Care => "no record carries a gate or a witness where rows are not cared for".to_string(),
+        _ => refusal.to_string(),
+    }
+}
+
+/// The first row that is not cared for, or that stands on a wrong side, in words.
 pub fn misplaced(table: &Table, sides: &[Side; 2]) -> Option<String> {
+    if let Some(row) = sides.iter().flatten().map(|pair| pair.0).find(|&row| table.cares_for(row) != Ok(true)) {
+        return Some(format!("row {row} ({}) is not cared for", columns::described(row, table.inputs())));
+    }
     let wrong = |value: bool| sides[usize::from(!value)].iter().map(|pair| pair.0).find(|&row| table.value(row) != Ok(value));
     let told = |row: u32, side: &str, value: u32| {
         format!("row {row} ({}) stands {side} the =, and the table is {value} there", columns::described(row, table.inputs()))
@@ -150,6 +161,9 @@ mod tests {
         {
             assert_eq!(weights(text), (vec![2, -3, 1], 4), "{text}");
         }
+        for text in ["e0@f7: 2 -3 1 >= 4", "0b1110-000: 2 x1 - 3 x2 + x3 >= 4"] {
+            assert_eq!(weights(text), (vec![2, -3, 1], 4), "{text}");
+        }
         assert_eq!(weights("e8: 0 >= 1"), (vec![0, 0, 0], 1));
         assert_eq!(weights("2/1: -x1 >= -5"), (vec![-1], -5));
         assert_eq!(weights("1/0: >= 0"), (vec![], 0));
@@ -219,6 +233,10 @@ mod tests {
             record("f888: 3 = 12").unwrap_err(),
             "row 12 (x1 = 0, x2 = 0, x3 = 1, x4 = 1) stands after the =, and the table is 1 there"
         );
+        assert_eq!(record("e0@f7: 1 = 3").unwrap_err(), "row 3 (x1 = 1, x2 = 1, x3 = 0) is not cared for");
+        for certificate in ["e0@f7: 1 1 1 >= 2", "06@0f: 1 2 = 0 3"] {
+            assert_eq!(record(certificate).unwrap_err(), "no record carries a gate or a witness where rows are not cared for");
+        }
         assert!(record("f888: =").unwrap_err().starts_with("refused by 8"));
         assert!(record("f888: 1000001*3 = 5").unwrap_err().starts_with("refused by 8"));
     }

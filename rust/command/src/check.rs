@@ -96,17 +96,21 @@ fn checked(certificate: &Certificate) -> Result<(bool, Vec<String>), String> {
 }
 
 fn gate_holds(gate: &Gate) -> Vec<String> {
-    let rows = match 1 << gate.inputs() {
-        1 => "its one row".to_string(),
-        rows => format!("each of {}", numbers::of(rows, "row")),
+    let table = gate.table();
+    let cared_for = if table.is_partial() { " that is cared for" } else { "" };
+    let rows = match words::cared_rows(&table).count() as u64 {
+        1 => format!("its one row{cared_for}"),
+        rows => format!("each of {}{}", numbers::of(rows, "row"), cared_for.replace("is", "are")),
     };
     vec![format!("holds: the gate has the table's value on {rows}"), words::sums(gate)]
 }
 
 fn gate_fails(gate: &Gate) -> Vec<String> {
     let table = gate.table();
-    let wrong: Vec<u32> = (0..1 << gate.inputs()).filter(|&row| gate.value(row) != table.value(row)).collect();
-    let (row, of) = (wrong[0], numbers::of(1 << gate.inputs(), "row"));
+    let rows: Vec<u32> = words::cared_rows(&table).collect();
+    let wrong: Vec<u32> = rows.iter().copied().filter(|&row| gate.value(row) != table.value(row)).collect();
+    let cared_for = if table.is_partial() { " cared for" } else { "" };
+    let (row, of) = (wrong[0], format!("{}{cared_for}", numbers::of(rows.len() as u64, "row")));
     let (sum, threshold) = (words::sum(gate, row), gate.threshold());
     let (relation, value) = if gate.value(row) == Ok(true) { ("at least", 0) } else { ("below", 1) };
     let first = if wrong.len() == 1 { "which is" } else { "the first is" };
@@ -158,6 +162,17 @@ mod tests {
         assert_eq!(lines[0], "does not hold: the gate differs from the table on 3 of 8 rows, the first is row 1");
         assert_eq!(lines[1], "row 1 (x1 = 1, x2 = 0, x3 = 0): the sum is 1, at least 1, and the table is 0");
         assert_eq!(told("1/0: >= 0").1[0], "holds: the gate has the table's value on its one row");
+        let (holds, lines) = told("e0@f7: 1 1 1 >= 2");
+        assert!(holds);
+        assert_eq!(lines[0], "holds: the gate has the table's value on each of 7 rows that are cared for");
+        assert_eq!(told("e0@ff: 1 1 1 >= 2").1[0], "does not hold: the gate differs from the table on 1 of 8 rows, which is row 3");
+        let (_, lines) = told("e0@f7: 1 1 1 >= 1");
+        assert_eq!(lines[0], "does not hold: the gate differs from the table on 3 of 7 rows cared for, the first is row 1");
+        assert_eq!(told("0b1-: 1 >= 1").1[0], "holds: the gate has the table's value on its one row that is cared for");
+        assert_eq!(
+            told("0@0: 7 7 >= 1").1,
+            ["holds: the gate has the table's value on each of 0 rows that are cared for", "no row is cared for"]
+        );
         let (_, lines) = told("8: 1 1 >= 3");
         assert_eq!(lines[0], "does not hold: the gate differs from the table on 1 of 4 rows, which is row 3");
         assert_eq!(lines[1], "row 3 (x1 = 1, x2 = 1): the sum is 2, below 3, and the table is 1");
@@ -167,6 +182,8 @@ mod tests {
     fn a_witness_holds_or_fails_at_a_row_or_a_total() {
         assert!(told("f888: 3 12 = 5 10").0);
         assert!(told("f888: 2*3 2*12 = 2*5 2*10").0);
+        assert!(told("06@0f: 1 2 = 0 3").0 && told("0b----0110: 1 2 = 0 3").0);
+        assert_eq!(told("06@0f: 1 2 = 0 7").1[0], "does not hold: row 7 (x1 = 1, x2 = 1, x3 = 1) is not cared for");
         for (text, why) in [
             ("f888: 3 12 = 5 9", "x1 is true 1 time in the true rows and 2 times in the false ones"),
             ("f888: 3 12 = 5", "2 true rows against 1 false"),

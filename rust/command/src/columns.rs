@@ -52,13 +52,13 @@ fn list(inputs: u32, rows: &Side, height: usize) -> Vec<Vec<String>> {
 }
 
 /// Each row of a table with its inputs, and further columns: a head, and what stands there on a row.
-pub fn each_row(inputs: u32, further: &[(&str, &dyn Fn(u32) -> i64)]) -> Vec<String> {
+pub fn each_row(inputs: u32, further: &[(&str, &dyn Fn(u32) -> String)]) -> Vec<String> {
     let heads = further.iter().map(|(head, _)| head.to_string());
     let head = std::iter::once("row".to_string()).chain(names(inputs)).chain(heads).collect();
     let mut cells: Vec<Vec<String>> = vec![head];
     for row in 0..1 << inputs {
         let places = (1..=inputs).map(|input| place(row, input).to_string());
-        let values = further.iter().map(|(_, value)| value(row).to_string());
+        let values = further.iter().map(|(_, value)| value(row));
         cells.push(std::iter::once(row.to_string()).chain(places).chain(values).collect());
     }
     let widths = widths(cells.iter());
@@ -120,7 +120,7 @@ mod tests {
 
     #[test]
     fn rows_have_their_columns() {
-        let lines = each_row(2, &[("value", &|row| i64::from(row == 3)), ("sum", &|row| -10 * i64::from(row))]);
+        let lines = each_row(2, &[("value", &|row| u8::from(row == 3).to_string()), ("sum", &|row| (-10 * i64::from(row)).to_string())]);
         let expected = ["row x1 x2 value sum", "  0  0  0     0   0", "  1  1  0     0 -10", "  2  0  1     0 -20", "  3  1  1     1 -30"];
         assert_eq!(lines, expected);
         assert_eq!(described(2, 3), "x1 = 0, x2 = 1, x3 = 0");

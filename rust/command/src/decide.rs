@@ -1,8 +1,9 @@
 //! Tables of the call, each decided and told in words.
 
+use crate::files;
 use crate::known::Known;
 use crate::trouble::{self, say, Trouble};
-use crate::{files, words};
+use crate::words::{self, Saved};
 use std::io::{self, Write};
 use threshold::{Table, Verdict};
 
@@ -19,6 +20,7 @@ pub struct Asked {
 }
 
 /// Tells each verdict as soon as it is there; or where they are to be saved, saves their records, one after another, and then tells them.
+/// In place of a verdict that no record carries the table is saved.
 pub fn decide(asked: &Asked) -> Result<u8, Trouble> {
     for note in &asked.notes {
         let _ = writeln!(io::stderr(), "threshold: {note}");
@@ -26,16 +28,18 @@ pub fn decide(asked: &Asked) -> Result<u8, Trouble> {
     let decided = asked.tables.iter().map(|(title, table)| (title, Known::decided(table, asked.budget)));
     let Some(file) = &asked.save else { return tell(asked, decided) };
     let decided: Vec<_> = decided.collect();
-    let records: Vec<&[u8]> = decided.iter().map(|(_, known)| known.record()).collect();
-    files::write(file, &records.concat())?;
+    let record = |known: &Known| known.record().map_or_else(|| known.table().record().to_vec(), <[u8]>::to_vec);
+    let records: Vec<u8> = decided.iter().flat_map(|(_, known)| record(known)).collect();
+    files::write(file, &records)?;
     tell(asked, decided.into_iter())
 }
 
 fn tell<'a>(asked: &Asked, decided: impl Iterator<Item = (&'a String, Known)>) -> Result<u8, Trouble> {
     let mut status = trouble::DONE;
+    let saved = asked.save.as_deref().map(|file| Saved { file, had_job: false });
     for (title, known) in decided {
         status = status.max(self::status(&known));
-        say(words::verdict(title, &known, asked.rows, asked.save.as_deref()))?;
+        say(words::verdict(title, &known, asked.rows, saved))?;
     }
     Ok(status)
 }

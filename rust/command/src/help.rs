@@ -18,7 +18,8 @@ Without a FILE, or where it is -, many, pack and list read standard input. Try
 A verdict is a gate, which can be tried on every row; or a witness, after which
 no weights of any size exist; or 'given up so far', which can be carried on.
 In row r of a table, input xi is true when bit i - 1 of r is 1. A gate is true
-in a row when the weights of the row's true inputs add up to T or more.
+in a row when the weights of the row's true inputs add up to T or more. A row
+that never occurs need not be cared for: the verdict is then on the others.
 
 TABLE, of up to 8 inputs
   e8  0x8000     hex digits, the highest rows first, as ABC and kitty write:
@@ -27,6 +28,8 @@ TABLE, of up to 8 inputs
   2/1            hex digits and the number of inputs, for tables of 0 or 1 input
   0b11101000     a binary digit for each row, the highest first. 0b10 has the
                  length of hex digits too, and is read so; 0b10/1 is binary
+  0b1110-000     the same with a - for each row that is not cared for
+  e0@f7          the values, and the rows cared for, each as above
   -e EXPRESSION  of as many inputs as the highest that it names
 
 EXPRESSION, what binds tightest first
@@ -45,8 +48,12 @@ file by `threshold check <FILE`.
 
 OPTIONS for tables
   -n N           the number of inputs of every table of the call, 0 to 8
+  --cares E      of every table of the call, care only for the rows where the
+                 EXPRESSION E is true
   --rows         each row with its value and its sum; for `on` too
-  --save FILE    writes the verdicts to FILE as records, for `on` and `list`
+  --save FILE    writes the verdicts to FILE as records, for `on` and `list`. No
+                 record carries a gate or a witness where rows are not cared
+                 for: FILE then has the table, or after `on` the job as it was
   --budget N     at most N corrections, 1 to 1000000; without it 100000. With
                  `on`, N more. For `many` too
 OPTIONS for many

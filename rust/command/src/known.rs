@@ -55,12 +55,12 @@ impl Known {
         }
     }
 
-    /// The record, to be saved.
-    pub fn record(&self) -> &[u8] {
+    /// The record, to be saved. No record carries a gate or a witness for a table with a row that is not cared for.
+    pub fn record(&self) -> Option<&[u8]> {
         match &self.verdict {
-            Verdict::Gate(gate) => gate.record(),
-            Verdict::Witness(witness) => witness.record(),
-            Verdict::Open(job) => job.record(),
+            Verdict::Gate(gate) => gate.record().ok(),
+            Verdict::Witness(witness) => witness.record().ok(),
+            Verdict::Open(job) => Some(job.record()),
         }
     }
 }
@@ -85,6 +85,17 @@ pub mod tests {
             assert_eq!(part.corrections, Some(first));
             assert!(matches!(part.verdict, Verdict::Open(_)));
             assert_eq!(part.carried_on(131_076 - first), whole);
+        }
+    }
+
+    #[test]
+    fn a_verdict_on_rows_cared_for_has_no_record() {
+        for (text, budget, kind) in [("e8", 100, Some(2)), ("f888", 100, Some(3)), ("e8", 1, Some(4)), ("e0@f7", 1, Some(6))] {
+            assert_eq!(Known::decided(&text.parse().unwrap(), budget).record().map(|record| record[0]), kind, "{text}");
+        }
+        for text in ["6@7", "06@0f", "0@0"] {
+            let known = Known::decided(&text.parse().unwrap(), CALL_BUDGET);
+            assert_eq!((known.record(), known.table().to_string()), (None, text.to_string()));
         }
     }
 

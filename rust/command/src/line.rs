@@ -22,9 +22,13 @@ pub fn verdict(verdict: &Verdict) -> String {
     }
 }
 
-/// What is known as a JSON object on one line.
+/// What is known as a JSON object on one line. The rows cared for stand there if not all are.
 pub fn json(table: &Table, rest: &str) -> String {
-    format!("{{\"table\":\"{table}\",\"inputs\":{},{rest}}}", table.inputs())
+    let (digits, inputs) = (table.to_string(), table.inputs());
+    match digits.split_once('@') {
+        Some((values, cares)) => format!("{{\"table\":\"{values}\",\"cares\":\"{cares}\",\"inputs\":{inputs},{rest}}}"),
+        None => format!("{{\"table\":\"{digits}\",\"inputs\":{inputs},{rest}}}"),
+    }
 }
 
 /// The fields of a JSON object after the table.
@@ -72,6 +76,8 @@ mod tests {
         assert_eq!(text(&decided("f888")), "f888: 3 12 = 6 9");
         assert_eq!(text(&decided("2/1")), "2/1: 2 >= 1");
         assert_eq!(text(&decided("1/0")), "1/0: >= -1");
+        assert_eq!(text(&decided("0b-110")), "6@7: 2 2 >= 1");
+        assert_eq!(text(&decided("06@0f")), "06@0f: 1 2 = 0 3");
         assert_eq!(text(&Known::decided(&slow(), 7)), format!("{SLOW}: open at K 7"));
     }
 

@@ -3,7 +3,8 @@
 use crate::known::Known;
 use crate::stream::{self, Item};
 use crate::trouble::{self, say, Trouble};
-use crate::{decide, files, words, written};
+use crate::words::{self, Saved};
+use crate::{decide, files, written};
 use threshold::Verdict;
 
 /// What is asked.
@@ -14,8 +15,9 @@ pub struct Asked {
     pub budget: u32,
 }
 
-/// Carries each open job of a file on, decides its tables, and writes the file anew with what is known then. Gates and witnesses stay. A
-/// file without an open job is refused and left as it is, since it may be anyone's.
+/// Carries each open job of a file on, decides its tables, and writes the file anew with what is known then. Gates and witnesses stay, and
+/// so does a job or a table that comes to a verdict which no record carries. A file without an open job is refused and left as it is,
+/// since it may be anyone's.
 pub fn carry_on(asked: &Asked) -> Result<u8, Trouble> {
     let bytes = files::read(Some(&asked.file))?;
     let items: Result<Vec<Item>, _> = stream::items(&bytes).collect();
@@ -26,15 +28,17 @@ pub fn carry_on(asked: &Asked) -> Result<u8, Trouble> {
     if !items.iter().any(is_open) {
         return Err(Trouble::Failed(format!("{0}: no open job is in it; threshold list {0} shows what is", asked.file)));
     }
-    let known: Vec<Known> = items.into_iter().map(|item| carried_on(item, asked.budget)).collect();
-    let records: Vec<u8> = known.iter().flat_map(|known| known.record()).copied().collect();
+    let known: Vec<Known> = items.iter().map(|item| carried_on(item.clone(), asked.budget)).collect();
+    let records: Vec<u8> =
+        known.iter().zip(&items).flat_map(|(known, item)| known.record().or(item.record()).unwrap_or_default()).copied().collect();
     if records != bytes {
         files::write(&asked.file, &records)?;
     }
     let mut status = trouble::DONE;
-    for known in &known {
+    for (known, item) in known.iter().zip(&items) {
         status = status.max(decide::status(known));
-        say(words::verdict(&written::digits(&known.table()), known, asked.rows, Some(&asked.file)))?;
+        let saved = Saved { file: &asked.file, had_job: is_open(item) };
+        say(words::verdict(&written::digits(&known.table()), known, asked.rows, Some(saved)))?;
     }
     Ok(status)
 }

@@ -38,8 +38,21 @@ mod tests {
 
     #[test]
     fn packed_lines_are_listed_again() {
-        let lines =
-            ["0/0", "2/1", "6", "e8", "e8: 2 3 3 >= 4", "e8: 0 0 0 >= 4", "1/0: >= 0", "f888: 3 12 = 5 10", "f888: 7*3 =", "f888: = 5"];
+        let lines = [
+            "0/0",
+            "2/1",
+            "6",
+            "e8",
+            "0@2/1",
+            "6@7",
+            "e0@f7",
+            "e8: 2 3 3 >= 4",
+            "e8: 0 0 0 >= 4",
+            "1/0: >= 0",
+            "f888: 3 12 = 5 10",
+            "f888: 7*3 =",
+            "f888: = 5",
+        ];
         let records: Vec<u8> = lines.iter().flat_map(|line| record(line).unwrap()).collect();
         let listed: Vec<String> = stream::items(&records).map(|item| item.unwrap().text()).collect();
         assert_eq!(listed, lines);

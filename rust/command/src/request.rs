@@ -43,12 +43,13 @@ fn budget(value: &str) -> Result<u32, Trouble> {
 }
 
 fn read_tables(arguments: &[String]) -> Result<Request, Trouble> {
-    let words = options::read(arguments, &["--rows"], &["-n", "-e", "--save", "--budget"])?;
+    let words = options::read(arguments, &["--rows"], &["-n", "-e", "--cares", "--save", "--budget"])?;
     let mut asked = decide::Asked { tables: Vec::new(), notes: Vec::new(), rows: false, save: None, budget: CALL_BUDGET };
-    let mut inputs = None;
+    let (mut inputs, mut cares) = (None, None);
     for word in &words {
         match word {
             Word::Flag(_) => asked.rows = true,
+            Word::Value("--cares", text) => cares = Some(text.as_str()),
             Word::Value("-n", value) => inputs = Some(number("-n", value, 0, 8)?),
             Word::Value("--save", file) => asked.save = Some(file.clone()),
             Word::Value("--budget", value) => asked.budget = budget(value)?,
@@ -58,10 +59,10 @@ fn read_tables(arguments: &[String]) -> Result<Request, Trouble> {
     for word in &words {
         match word {
             Word::Alone(text) => {
-                asked.tables.push(digits(text, inputs)?);
+                asked.tables.push(digits(text, inputs, cares)?);
                 asked.notes.extend(written::note(text, inputs));
             }
-            Word::Value("-e", text) => asked.tables.push(expression(text, inputs)?),
+            Word::Value("-e", text) => asked.tables.push(expression(text, inputs, cares)?),
             _ => {}
         }
     }
@@ -71,15 +72,21 @@ fn read_tables(arguments: &[String]) -> Result<Request, Trouble> {
     Ok(Request::Decide(asked))
 }
 
+/// The table with only those rows cared for that the call names, if it names them.
+fn caring(table: Table, cares: Option<&str>) -> Result<Table, Trouble> {
+    cares.map_or(Ok(table.clone()), |cares| written::caring(&table, cares).map_err(Trouble::Usage))
+}
+
 /// A table by its digits, and its name in the answer.
-fn digits(text: &str, inputs: Option<u32>) -> Result<(String, Table), Trouble> {
+fn digits(text: &str, inputs: Option<u32>, cares: Option<&str>) -> Result<(String, Table), Trouble> {
     let table = written::table(text, inputs).map_err(|why| Trouble::Usage(written::hinted(text, why)))?;
+    let table = caring(table, cares)?;
     Ok((written::digits(&table), table))
 }
 
 /// The table of an expression, and its name in the answer.
-fn expression(text: &str, inputs: Option<u32>) -> Result<(String, Table), Trouble> {
-    let table = written::expression(text, inputs).map_err(Trouble::Usage)?;
+fn expression(text: &str, inputs: Option<u32>, cares: Option<&str>) -> Result<(String, Table), Trouble> {
+    let table = caring(written::expression(text, inputs).map_err(Trouble::Usage)?, cares)?;
     Ok((format!("{} ({text})", written::digits(&table)), table))
 }
 
@@ -161,6 +168,16 @@ mod tests {
         assert!(asked.tables.iter().all(|(_, table)| table.inputs() == 1));
         assert_eq!([&asked.tables[0].0, &asked.tables[1].0], ["2/1", "2/1 (x1)"]);
         assert!(matches!(read(&["e8", "-n", "9"]), Err(Trouble::Usage(_))));
+    }
+
+    #[test]
+    fn the_rows_cared_for_are_for_all_tables() {
+        let Ok(Request::Decide(asked)) = read(&["6", "--cares", "!(x1 x2)", "a@b", "-e", "x1 + x2"]) else { panic!() };
+        let titles: Vec<&str> = asked.tables.iter().map(|(title, _)| title.as_str()).collect();
+        assert_eq!(titles, ["6@7", "2@3", "6@7 (x1 + x2)"]);
+        assert!(matches!(read(&["6", "--cares", "x3"]), Err(Trouble::Usage(_))));
+        assert!(matches!(read(&["6", "--cares", "x1 +"]), Err(Trouble::Usage(_))));
+        assert!(matches!(read(&["many", "--cares", "x1"]), Err(Trouble::Usage(_))));
     }
 
     #[test]

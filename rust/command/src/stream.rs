@@ -30,10 +30,18 @@ impl Refused {
 impl Item {
     pub fn read(record: &[u8]) -> Result<Item, Refusal> {
         match calls::kind(record)? {
-            1 => Table::from_record(record).map(Item::Table),
+            1 | 5 => Table::from_record(record).map(Item::Table),
             2 => Gate::from_record(record).map(|gate| Item::Known(Known::gate(gate))),
             3 => Witness::from_record(record).map(|witness| Item::Known(Known::witness(witness))),
             _ => SavedJob::from_record(record).map(|job| Item::Known(Known::open(job))),
+        }
+    }
+
+    /// The record, which every item that was read has.
+    pub fn record(&self) -> Option<&[u8]> {
+        match self {
+            Item::Table(table) => Some(table.record()),
+            Item::Known(known) => known.record(),
         }
     }
 
@@ -89,18 +97,20 @@ fn first_length(bytes: &[u8]) -> Result<usize, Refusal> {
 mod tests {
     use super::*;
     use crate::known::tests::slow;
+    use std::collections::BTreeSet;
     use threshold::CALL_BUDGET;
 
     /// Records of all kinds, the shortest and long ones.
     fn records() -> Vec<Vec<u8>> {
-        let tables = ["0/0", "2/1", "e8", "f888"].map(|text| written::table(text, None).unwrap());
+        let tables = ["0/0", "2/1", "e8", "f888", "0@0/0", "0b1-", "e0@f7", "f888@fffd"].map(|text| written::table(text, None).unwrap());
         let mut records: Vec<Vec<u8>> = tables.iter().map(|table| table.record().to_vec()).collect();
-        for table in tables.iter().chain([&slow()]) {
-            records.push(Known::decided(table, 1).record().to_vec());
-            records.push(Known::decided(table, CALL_BUDGET).record().to_vec());
+        for table in tables.iter().chain([&slow(), &written::caring(&slow(), "x1 + x2").unwrap()]) {
+            records.extend(Known::decided(table, 1).record().map(<[u8]>::to_vec));
+            records.extend(Known::decided(table, CALL_BUDGET).record().map(<[u8]>::to_vec));
         }
         let every: Vec<(u32, u32)> = (0..256).map(|row| (row, 1_000_000)).collect();
-        records.push(Witness::new(&slow(), &every).unwrap().record().to_vec());
+        records.push(Witness::new(&slow(), &every).unwrap().record().unwrap().to_vec());
+        assert_eq!(records.iter().map(|record| record[0]).collect::<BTreeSet<u8>>(), BTreeSet::from([1, 2, 3, 4, 5, 6]));
         records
     }
 

@@ -10,7 +10,8 @@ pub fn content(line: &str) -> Option<&str> {
 }
 
 /// A table by hex digits, with or without `0x`, or by binary digits after `0b`, the highest row first. After a `/` may stand the number of
-/// inputs: one hex digit is a table of two inputs, and `2/1` one of one. `inputs` is what the call says of them, if anything.
+/// inputs: one hex digit is a table of two inputs, and `2/1` one of one. `inputs` is what the call says of them, if anything. A row that is
+/// not cared for has a `-` in place of its binary digit; or the rows cared for stand, like the values, after an `@`: `e0@f7`.
 ///
 /// `0b` begins hex digits too, as those of the table 0b11 of four inputs. Where their number is right for a table they are hex; so a table
 /// of one input is written in binary digits only where its inputs are named, as in `0b10/1`: [`note`] says so.
@@ -18,12 +19,15 @@ pub fn table(text: &str, inputs: Option<u32>) -> Result<Table, String> {
     if let Some((digits, named)) = text.rsplit_once('/') {
         return table_of_named(text, digits, named, inputs);
     }
+    if let Some((values, cares)) = text.split_once('@') {
+        return table_with_cares(text, values, cares, inputs);
+    }
     let hex_length = match inputs {
         Some(inputs) => text.len() == hex_digits(inputs),
         None => text.len().is_power_of_two(),
     };
     match text.strip_prefix("0b").or_else(|| text.strip_prefix("0B")) {
-        Some(digits) if !hex_length => binary(text, digits, inputs),
+        Some(digits) if !hex_length || digits.contains('-') => binary(text, digits, inputs),
         _ => hex(text, inputs),
     }
 }
@@ -40,6 +44,36 @@ fn table_of_named(text: &str, digits: &str, named: &str, inputs: Option<u32>) ->
         }
         _ => table(digits, Some(named)),
     }
+}
+
+/// A table of these values, of which these rows are cared for.
+fn table_with_cares(text: &str, values: &str, cares: &str, inputs: Option<u32>) -> Result<Table, String> {
+    if values.contains('-') || cares.contains(['-', '@']) {
+        return Err(format!("{text:?}: the rows cared for stand once, after one @"));
+    }
+    let values = table(values, inputs)?;
+    let cares = table(cares, Some(values.inputs())).map_err(|why| format!("the rows cared for: {why}"))?;
+    Table::from_cares(values.inputs(), &values.words(), &cares.words()).map_err(|refusal| match stray_row(&values, &cares) {
+        Some(row) => format!("{text:?}: row {row} has the value 1 and is not cared for"),
+        None => format!("{text:?} is {refusal}"),
+    })
+}
+
+/// The first row with the value 1 that is not cared for.
+fn stray_row(values: &Table, cares: &Table) -> Option<u32> {
+    (0..1 << values.inputs()).find(|&row| values.value(row) == Ok(true) && cares.value(row) == Ok(false))
+}
+
+/// The table with only those of its rows cared for where an expression is true. What it has on others is left out of account.
+pub fn caring(table: &Table, text: &str) -> Result<Table, String> {
+    let read = Expression::read(text).map_err(|fault| shown(text, &fault))?;
+    if read.highest > table.inputs() {
+        let inputs = numbers::of(table.inputs().into(), "input");
+        return Err(format!("the rows cared for, {text:?}, name x{}, and the table has {inputs}", read.highest));
+    }
+    let cared = |row| read.values.value(row) && table.cares_for(row) == Ok(true);
+    let value = |row| table.value(row).ok().filter(|_| cared(row));
+    Table::from_partial_fn(table.inputs(), value).map_err(|refusal| refusal.to_string())
 }
 
 /// What is to be said of a table that reads as hex digits and looks like binary ones: that it is hex, and how it is written in binary.
@@ -92,7 +126,7 @@ fn hex(text: &str, inputs: Option<u32>) -> Result<Table, String> {
 }
 
 fn binary(text: &str, digits: &str, inputs: Option<u32>) -> Result<Table, String> {
-    if let Some(wrong) = digits.chars().find(|c| !matches!(c, '0' | '1')) {
+    if let Some(wrong) = digits.chars().find(|c| !matches!(c, '0' | '1' | '-')) {
         return Err(format!("{text:?} is no table: {wrong:?} is not a binary digit"));
     }
     let (count, own) = (digits.len(), digits.len().trailing_zeros());
@@ -103,8 +137,9 @@ fn binary(text: &str, digits: &str, inputs: Option<u32>) -> Result<Table, String
     if inputs.is_some_and(|inputs| inputs != own) {
         return Err(format!("{text:?} is a table of {}", numbers::of(own.into(), "input")));
     }
-    let rows = digits.as_bytes();
-    Table::from_fn(own, |row| rows[count - 1 - row as usize] == b'1').map_err(|refusal| format!("{text:?} is {refusal}"))
+    let digit = |row: u32| digits.as_bytes()[count - 1 - row as usize];
+    let value = |row| Some(digit(row) == b'1').filter(|_| digit(row) != b'-');
+    Table::from_partial_fn(own, value).map_err(|refusal| format!("{text:?} is {refusal}"))
 }
 
 /// The table of an expression, of as many inputs as the highest that it names, or of more if `inputs` says so. The error shows the place.
@@ -123,7 +158,8 @@ fn shown(text: &str, fault: &Fault) -> String {
     format!("the expression cannot be read\n    {line}\n    {}^ {}", " ".repeat(fault.at), fault.what)
 }
 
-/// A table as [`table`] reads it: its hex digits, and for a table under two inputs their number.
+/// A table as [`table`] reads it: its hex digits, those of the rows cared for if not all are, and for a table under two inputs their
+/// number.
 pub fn digits(table: &Table) -> String {
     match table.inputs() {
         inputs @ 0..=1 => format!("{table}/{inputs}"),
@@ -225,6 +261,55 @@ mod tests {
     }
 
     #[test]
+    fn rows_are_left_free_by_a_dash_or_by_digits() {
+        let example = Table::from_cares(3, &[0xe0], &[0xf7]).unwrap();
+        for text in ["0b1110-000", "e0@f7", "0xE0@0xF7", "0b11100000@f7", "e0@0b11110111", "e0@f7/3", "0b1110-000/3"] {
+            assert_eq!(table(text, None).as_ref(), Ok(&example), "{text}");
+        }
+        assert_eq!(table("e0@ff", None), table("e0", None));
+        assert_eq!(table("0b1-", None), Table::from_cares(1, &[2], &[2]).map_err(|_| String::new()));
+        assert_eq!(table("0b-", None), table("0@0/0", None));
+        assert_eq!([table("0b--", Some(1)), table("0@0", Some(1))], [table("0b--", None), table("0b--", None)]);
+        for n in 0..=8 {
+            let digits: String = (0..1 << n).map(|row| ['1', '-', '0'][row % 3]).collect();
+            let place = |row: u32| digits.as_bytes()[(1 << n) - 1 - row as usize];
+            let expected = Table::from_partial_fn(n, |row| Some(place(row) == b'1').filter(|_| place(row) != b'-')).unwrap();
+            assert_eq!(table(&format!("0b{digits}"), None).as_ref(), Ok(&expected));
+            assert_eq!(table(&super::digits(&expected), None), Ok(expected));
+        }
+    }
+
+    #[test]
+    fn wrong_cares_are_told() {
+        let once = "the rows cared for stand once, after one @";
+        for (text, told) in [
+            ("e0@f7@f7", format!("\"e0@f7@f7\": {once}")),
+            ("0b1110-000@f7", format!("\"0b1110-000@f7\": {once}")),
+            ("e0@0b1111-111", format!("\"e0@0b1111-111\": {once}")),
+            ("e0@f", "the rows cared for: \"f\" is no table of 3 inputs, which has 2 hex digits".to_string()),
+            ("e0@", "the rows cared for: \"\" is no table of 3 inputs, which has 2 hex digits".to_string()),
+            ("e0@fg", "the rows cared for: \"fg\" is no table: 'g' is not a hex digit".to_string()),
+            ("0b11-", "\"0b11-\" has 3 binary digits: a table of 0 to 8 inputs has 1, 2, 4, 8, 16, 32, 64, 128 or 256".to_string()),
+        ] {
+            assert_eq!(table(text, None).unwrap_err(), told);
+        }
+        for (text, row) in [("e8@f7", 3), ("f8@c6", 3), ("8000@7fff", 15), ("f@0", 0)] {
+            assert_eq!(table(text, None).unwrap_err(), format!("{text:?}: row {row} has the value 1 and is not cared for"));
+        }
+    }
+
+    #[test]
+    fn an_expression_says_which_rows_are_cared_for() {
+        let read = |text: &str| table(text, None).unwrap();
+        assert_eq!(caring(&read("6"), "!(x1 x2)"), Ok(read("6@7")));
+        assert_eq!(caring(&read("e8"), "!(x1 x2) + x3"), Ok(read("e0@f7")));
+        assert_eq!(caring(&read("e0@f7"), "x1"), Ok(read("a0@a2")));
+        assert_eq!(caring(&read("e8"), "1"), Ok(read("e8")));
+        assert_eq!(caring(&read("6"), "x3").unwrap_err(), "the rows cared for, \"x3\", name x3, and the table has 2 inputs");
+        assert!(caring(&read("6"), "x1 +").unwrap_err().starts_with("the expression cannot be read"));
+    }
+
+    #[test]
     fn expressions_are_tables() {
         assert_eq!(expression("x1 x2 + !x3", None), table("8f", None));
         assert_eq!(expression("x1", None), table("2/1", None));
@@ -239,7 +324,7 @@ mod tests {
 
     #[test]
     fn digits_are_read_again() {
-        for text in ["0/0", "1/0", "2/1", "6", "e8", "f888"] {
+        for text in ["0/0", "1/0", "2/1", "6", "e8", "f888", "0@0/0", "0@2/1", "6@7", "e0@f7", "0000@0000"] {
             assert_eq!(digits(&table(text, None).unwrap()), text);
         }
     }

@@ -41,6 +41,12 @@ fn statuses_tell_the_verdicts() {
         (&[SLOW, "--budget", "1000000"], 1),
         (&["check", "e8: 1 1 1 >= 2"], 0),
         (&["check", "e8: 1 1 1 >= 2", "e8: 1 1 1 >= 1"], 1),
+        (&["6"], 1),
+        (&["0b-110"], 0),
+        (&["6@7", "06@0f"], 1),
+        (&["6", "--cares", "!(x1 x2)"], 0),
+        (&["check", "e0@f7: 1 1 1 >= 2"], 0),
+        (&["check", "06@0f: 1 2 = 0 7"], 1),
         (&["--help"], 0),
     ] {
         let (found, output, errors) = ran(arguments, b"");
@@ -73,6 +79,36 @@ fn a_job_is_saved_and_carried_on() {
     let listed = format!("{SLOW}: 222 225 = 217 230\ne8: 2 3 3 >= 4\n");
     assert_eq!(ran(&["list", name], b""), (0, listed.into_bytes(), String::new()));
     assert_eq!(fs::read_dir(&folder).unwrap().count(), 1);
+    fs::remove_dir_all(folder).unwrap();
+}
+
+#[test]
+fn a_job_with_rows_not_cared_for_is_saved_and_carried_on() {
+    let folder = folder("partial");
+    let file = folder.join("job.bin");
+    let name = file.to_str().unwrap();
+    let told = format!("    not saved: no record carries a gate or a witness where rows are not cared for\n    {name} has the ");
+    // An open job is of kind 6, and a table that is decided stays one of kind 5.
+    assert_eq!(ran(&["--save", name, "--budget", "5", "6@7", "0@0"], b"").0, 3);
+    let open = fs::read(&file).unwrap();
+    assert_eq!((open[0], &open[open.len() - 4..]), (6, &[5, 2, 0, 0][..]));
+    assert_eq!(ran(&["list", name], b"").1, b"6@7: open at K 5\n0@0\n");
+    // The end of the job is told, and told again: the file keeps the job.
+    for _ in 0..2 {
+        let (status, output, _) = ran(&["on", name], b"");
+        let output = String::from_utf8(output).unwrap();
+        assert_eq!((status, output.matches(&told).count()), (0, 2));
+        assert!(
+            output.contains(&format!("{told}open job still: threshold on {name} comes to this again, with enough budget\n")),
+            "{output}"
+        );
+        assert!(output.ends_with(&format!("{told}table\n")), "{output}");
+        assert!(output.contains("\n    found after 9 corrections\n"), "{output}");
+        assert_eq!(fs::read(&file).unwrap(), open);
+    }
+    // One that stays open goes on.
+    assert_eq!(ran(&["on", name, "--budget", "1"], b"").0, 3);
+    assert_eq!(ran(&["list", name], b"").1, b"6@7: open at K 6\n0@0\n");
     fs::remove_dir_all(folder).unwrap();
 }
 
@@ -176,13 +212,17 @@ fn where_memory_is_short_fewer_threads_work() {
 
 #[test]
 fn lines_are_packed_and_listed() {
-    let lines = b"2/1\ne8\ne8: 2 3 3 >= 4\nf888: 3 12 = 5 10\n";
+    let lines = b"2/1\ne8\ne0@f7\ne8: 2 3 3 >= 4\nf888: 3 12 = 5 10\n";
     let (status, records, _) = ran(&["pack"], lines);
     assert_eq!((status, &records[..6]), (0, &[1, 1, 0x02, 1, 3, 0xe8][..]));
     assert_eq!(ran(&["list"], &records), (0, lines.to_vec(), String::new()));
     let (status, output, errors) = ran(&["list"], &[1, 1, 0x02, 1, 1, 0x04]);
     assert_eq!((status, output), (4, b"2/1\n".to_vec()));
     assert_eq!(errors, "threshold: standard input: record 2, at byte 3, is refused by 3: a spare bit of the table is set\n");
+    let (status, output, errors) = ran(&["pack"], b"e0@f7: 1 1 1 >= 2\n");
+    assert_eq!((status, output.len()), (4, 0));
+    let told = "no record carries a gate or a witness where rows are not cared for";
+    assert_eq!(errors, format!("threshold: standard input, line 1: {told}\n"));
     let (status, output, errors) = ran(&["pack"], b"e8\n\nzz\n");
     assert_eq!((status, output.len()), (4, 0));
     assert_eq!(errors, "threshold: standard input, line 3: \"zz\" is no table: 'z' is not a hex digit\n");
@@ -194,6 +234,16 @@ fn a_wrong_line_of_many_is_told_and_the_rest_answered() {
     assert_eq!((status, output), (4, b"e8: 2 3 3 >= 4\n8: 2 3 >= 4\n".to_vec()));
     let told = "threshold: line 2: \"zz\" is no table: 'z' is not a hex digit\n";
     assert_eq!(errors, format!("{told}2 tables, 2 distinct, in under 1 s: 2 with a gate, 0 without, 0 given up; 1 wrong line\n"));
+}
+
+#[test]
+fn lines_with_rows_not_cared_for_are_answered_and_checked() {
+    let (status, output, errors) = ran(&["many"], b"6\n0b-110\n6@7\n06@0f\n0@0\n");
+    let answers = "6: 1 2 = 0 3\n6@7: 2 2 >= 1\n6@7: 2 2 >= 1\n06@0f: 1 2 = 0 3\n0@0: 0 0 >= 0\n";
+    assert_eq!((status, String::from_utf8(output).unwrap()), (0, answers.to_string()));
+    assert!(errors.starts_with("5 tables, 4 distinct, "), "{errors}");
+    let (status, output, _) = ran(&["check"], answers.as_bytes());
+    assert_eq!((status, output.split(|&byte| byte == b'\n').filter(|line| line.starts_with(b"holds ")).count()), (0, 5));
 }
 
 #[test]

@@ -53,6 +53,19 @@ impl Comparison {
         self.compare_with(call, record, lent, expected)
     }
 
+    /// The outcome of a call that finds a gate or a witness, if it is what `finding` makes of what is lent.
+    pub fn compare_finding(
+        &mut self,
+        call: Call,
+        record: &[u8],
+        room: usize,
+        finding: impl FnOnce(Lent) -> Outcome,
+    ) -> Result<Outcome, Difference> {
+        let lent = Lent::new(&mut self.random, call, room);
+        let expected = finding(lent.clone());
+        self.compare_with(call, record, lent, expected)
+    }
+
     /// The outcome of a call with room for every answer. It is compared also in no room and, if it is answered, in rooms about the answer's
     /// length.
     pub fn compare_in_rooms(&mut self, call: Call, record: &[u8]) -> Result<Outcome, Difference> {

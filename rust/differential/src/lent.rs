@@ -2,7 +2,7 @@
 
 use crate::call::Call;
 use crate::random::Random;
-use reference::calls::HandedBack;
+use reference::calls::{FoundGate, FoundWitness, HandedBack};
 use reference::refusal::Refusal;
 
 /// The buffer, the number for the corrections made, the places for weights and T, and the places for counts.
@@ -33,8 +33,8 @@ impl Lent {
     pub fn new(random: &mut Random, call: Call, room: usize) -> Lent {
         let mut lent = Lent { made: random.draw() as u32, threshold: random.draw() as i32, ..Lent::default() };
         match call {
-            Call::Gate => lent.weights = (0..room).map(|_| random.draw() as i32).collect(),
-            Call::Witness => lent.counts = (0..room).map(|_| random.draw() as u32).collect(),
+            Call::Gate | Call::FindGate(_) => lent.weights = (0..room).map(|_| random.draw() as i32).collect(),
+            Call::Witness | Call::FindWitness(_) => lent.counts = (0..room).map(|_| random.draw() as u32).collect(),
             _ => lent.out = random.bytes(room),
         }
         lent
@@ -43,8 +43,8 @@ impl Lent {
     /// How many bytes, weights or counts are lent to the call.
     pub fn room(&self, call: Call) -> usize {
         match call {
-            Call::Gate => self.weights.len(),
-            Call::Witness => self.counts.len(),
+            Call::Gate | Call::FindGate(_) => self.weights.len(),
+            Call::Witness | Call::FindWitness(_) => self.counts.len(),
             _ => self.out.len(),
         }
     }
@@ -70,6 +70,23 @@ impl Lent {
         self.after(answer, |lent, HandedBack { bytes, made }| {
             lent.made = made;
             put(&mut lent.out, &bytes)
+        })
+    }
+
+    /// The outcome of a call that writes the weights of a gate, and sets T and the corrections made.
+    pub fn finding_gate(self, answer: Result<FoundGate, Refusal>) -> Outcome {
+        self.after(answer, |lent, FoundGate { weights, threshold, made }| {
+            lent.threshold = threshold;
+            lent.made = made;
+            put(&mut lent.weights, &weights)
+        })
+    }
+
+    /// The outcome of a call that writes the counts of a witness, and sets the corrections made.
+    pub fn finding_witness(self, answer: Result<FoundWitness, Refusal>) -> Outcome {
+        self.after(answer, |lent, FoundWitness { counts, made }| {
+            lent.made = made;
+            put(&mut lent.counts, &counts)
         })
     }
 }

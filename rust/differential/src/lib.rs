@@ -2,6 +2,7 @@
 //! report, byte by byte; and the page of heights.
 
 pub mod call;
+pub mod cares;
 pub mod compare;
 pub mod damage;
 pub mod difference;
@@ -11,6 +12,7 @@ pub mod heights;
 pub mod lent;
 pub mod lists;
 pub mod numbers;
+pub mod partial;
 pub mod random;
 pub mod read;
 pub mod records;

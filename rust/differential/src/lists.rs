@@ -3,18 +3,19 @@
 
 use crate::call::Call;
 use crate::compare::Comparison;
+use crate::damage::Compared;
 use crate::difference::Difference;
 use crate::random::Random;
-use crate::records::{before_looping_at_a_power, near_cap, table_of, untouched};
-use crate::tables::{samples, table, Family};
-use reference::calls::carried;
+use crate::records::{before_looping_at_a_power, job_record, near_cap, table_of, untouched};
+use crate::tables::{partial_table, samples, table, Family};
+use reference::calls::{carried, gate_of_job, witness_of_job};
 use reference::job::{Job, Stage};
-use reference::record::Record;
 use reference::refusal::Refusal;
 use threshold::ROOM;
 
-/// The lists from random jobs, and the most calls of one.
+/// The lists from random jobs, of tables with every row cared for and of others, and the most calls of one.
 const LISTS: u64 = 22_000;
+const PARTIAL_LISTS: u64 = 4_000;
 const CALLS: usize = 40;
 /// The calls between carry-ons.
 const OTHERS: [Call; 10] = [
@@ -30,27 +31,29 @@ const OTHERS: [Call; 10] = [
     Call::Value(0),
 ];
 
-/// Compares the lists, and gives their number.
-pub fn compare_lists(comparison: &mut Comparison) -> Result<u64, Difference> {
-    for _ in 0..LISTS {
-        let job = first_job(&mut comparison.random);
-        let most = comparison.random.choose(&[1, 5, 50, 1_000]);
-        list(comparison, job, most)?;
+/// Compares the lists, and gives their numbers.
+pub fn compare_lists(comparison: &mut Comparison) -> Result<Compared, Difference> {
+    for (number, make) in [(LISTS, table as fn(&mut Random, Family, usize) -> Vec<u8>), (PARTIAL_LISTS, partial_table)] {
+        for _ in 0..number {
+            let job = first_job(&mut comparison.random, make);
+            let most = comparison.random.choose(&[1, 5, 50, 1_000]);
+            list(comparison, job, most)?;
+        }
     }
     let whole = samples().into_iter().map(|record| untouched(table_of(&record))).filter(Job::is_sound);
     let jobs: Vec<Job> = whole.chain(before_looping_at_a_power()).collect();
     for job in &jobs {
         list(comparison, job.clone(), 100_000)?;
     }
-    Ok(LISTS + jobs.len() as u64)
+    Ok(Compared { full: LISTS + jobs.len() as u64, partial: PARTIAL_LISTS })
 }
 
-/// A fresh open job, or, one time in eight, a sound one near the cap.
-fn first_job(random: &mut Random) -> Job {
+/// A fresh open job of a table that is made so, or, one time in eight, a sound one near the cap.
+fn first_job(random: &mut Random, make: fn(&mut Random, Family, usize) -> Vec<u8>) -> Job {
     loop {
         let family = random.choose(&[Family::Threshold, Family::NearlyThreshold, Family::Unate]);
         let n = random.choose(&[0, 1, 2, 3, 3, 4, 4, 5, 6, 8]);
-        let table = table_of(&table(random, family, n));
+        let table = table_of(&make(random, family, n));
         let job = if random.one_in(8) { near_cap(random, table) } else { untouched(table) };
         if job.is_sound() {
             return job;
@@ -60,7 +63,7 @@ fn first_job(random: &mut Random) -> Job {
 
 /// One list: carry-ons with any rooms and budgets, few above `most`, with other calls between.
 fn list(comparison: &mut Comparison, mut machine: Job, most: usize) -> Result<(), Difference> {
-    let mut record = Record::Job(machine.clone()).bytes();
+    let mut record = job_record(machine.clone());
     for _ in 0..CALLS {
         let random = &mut comparison.random;
         if random.one_in(4) {
@@ -88,13 +91,21 @@ fn any_budget(random: &mut Random, left: i64, most: usize) -> u32 {
     }
 }
 
-/// Compares one carry-on of the record with the machine's. If it is accepted, both go on from what it gave.
+/// Compares one carry-on of the record with the machine's, and what is found by it. If it is accepted, both go on from what it gave. One
+/// that ends the job of a table with a row not cared for is refused, since no record carries its end.
 fn carry_on(comparison: &mut Comparison, machine: &mut Job, record: &mut Vec<u8>, budget: u32) -> Result<(), Difference> {
     let mut next = machine.clone();
     let answer = match machine.stage {
         Stage::Open => carried(&mut next, budget, ROOM),
         _ => Err(Refusal::OtherKind),
     };
+    let made = (next.k - machine.k) as u32;
+    let refused = answer.as_ref().err().copied().filter(|&refusal| refusal != Refusal::Care);
+    let room = comparison.random.choose(&[0, 1, 3, 8, 256, ROOM]);
+    let gate = refused.map_or_else(|| gate_of_job(&next, made, room), Err);
+    comparison.compare_finding(Call::FindGate(budget), record, room, |lent| lent.finding_gate(gate))?;
+    let witness = refused.map_or_else(|| witness_of_job(&next, made, room), Err);
+    comparison.compare_finding(Call::FindWitness(budget), record, room, |lent| lent.finding_witness(witness))?;
     let needed = answer.as_ref().map_or(0, |handed| handed.bytes.len());
     let any = comparison.random.below(ROOM);
     let room = comparison.random.choose(&[any, needed.saturating_sub(1), needed, needed + 1, ROOM]);

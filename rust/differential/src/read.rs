@@ -3,7 +3,7 @@
 use crate::call::Call;
 use std::hint::black_box;
 
-/// Copies of what a call reads, from before it: the record, and digits, words, weights or counts.
+/// Copies of what a call reads, from before it: the record, and digits, words, cares, weights or counts.
 pub struct Read {
     record: Vec<u8>,
     given: Given,
@@ -14,6 +14,7 @@ enum Given {
     Nothing,
     Digits(Vec<u8>),
     Words(Vec<u64>),
+    Cares(Vec<u64>, Vec<u64>),
     Weights(Vec<i32>),
     Counts(Vec<u32>),
 }
@@ -23,8 +24,9 @@ impl Read {
         let given = match call {
             Call::FromHex(_, digits) => Given::Digits(digits.to_vec()),
             Call::FromWords(_, words) => Given::Words(words.to_vec()),
-            Call::FromGate(weights, _) => Given::Weights(weights.to_vec()),
-            Call::FromWitness(counts) => Given::Counts(counts.to_vec()),
+            Call::FromCares(_, words, cares) => Given::Cares(words.to_vec(), cares.to_vec()),
+            Call::FromGate(weights, _) | Call::CheckGate(weights, _) => Given::Weights(weights.to_vec()),
+            Call::FromWitness(counts) | Call::CheckWitness(counts) => Given::Counts(counts.to_vec()),
             _ => Given::Nothing,
         };
         Read { record: record.to_vec(), given }
@@ -35,8 +37,9 @@ impl Read {
         let given_is_kept = match (&self.given, black_box(call)) {
             (Given::Digits(before), Call::FromHex(_, digits)) => before == digits,
             (Given::Words(before), Call::FromWords(_, words)) => before == words,
-            (Given::Weights(before), Call::FromGate(weights, _)) => before == weights,
-            (Given::Counts(before), Call::FromWitness(counts)) => before == counts,
+            (Given::Cares(words_before, before), Call::FromCares(_, words, cares)) => words_before == words && before == cares,
+            (Given::Weights(before), Call::FromGate(weights, _) | Call::CheckGate(weights, _)) => before == weights,
+            (Given::Counts(before), Call::FromWitness(counts) | Call::CheckWitness(counts)) => before == counts,
             (Given::Nothing, _) => true,
             _ => false,
         };

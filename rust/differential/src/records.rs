@@ -1,7 +1,7 @@
 //! Records to damage and to carry on: right ones of every kind, and jobs that a rule of soundness alone shuts out.
 
 use crate::random::Random;
-use crate::tables::{samples, table, Family};
+use crate::tables::{partial_table, samples, table, Family};
 use reference::job::{Job, Stage, Vector};
 use reference::record::{put_number, Record};
 use reference::table::Table;
@@ -9,7 +9,7 @@ use reference::table::Table;
 /// The budgets after which a job's record is taken: before, at and after powers of two.
 const BUDGETS: [u32; 6] = [1, 2, 3, 8, 13, 100];
 
-/// The table of a kind 1 record.
+/// The table of a record of kind 1 or 5.
 pub fn table_of(record: &[u8]) -> Table {
     match Record::read(record) {
         Ok(Record::Table(table)) => table,
@@ -17,7 +17,12 @@ pub fn table_of(record: &[u8]) -> Table {
     }
 }
 
-/// The kind 1 record of the table of a record that is whole and right.
+/// The record of an open job, or of one that is written as such.
+pub fn job_record(job: Job) -> Vec<u8> {
+    Record::Job(job).bytes().expect("a job has a record")
+}
+
+/// The kind 1 record of the table of a certificate's record.
 pub fn table_record(record: &[u8]) -> Vec<u8> {
     let (head, _) = taken_apart(record);
     [&[1], &head[1..]].concat()
@@ -29,13 +34,17 @@ pub fn untouched(table: Table) -> Job {
     Job::open(table, 0, zero.clone(), zero, counts)
 }
 
-/// A job with a K near the cap, some past it, whose counts and vectors fit one another.
+/// A job with a K near the cap, some past it, whose counts and vectors fit one another. The counts are on rows cared for, if there are any.
 pub fn near_cap(random: &mut Random, table: Table) -> Job {
+    let mut rows: Vec<usize> = table.cared_rows().collect();
+    if rows.is_empty() {
+        rows.push(0);
+    }
     let mut job = untouched(table);
     let k = 1_000_010 - random.choose(&[5, 20, 1_000, 50_000]) + random.around_zero(10);
     let mut rest = k - (1 << 19);
     while rest > 0 {
-        let row = random.below(job.counts.len());
+        let row = random.choose(&rows);
         let count = if random.one_in(4) { rest } else { 1 + random.below(rest as usize) as i64 };
         job.counts[row] += count;
         rest -= count;
@@ -79,13 +88,14 @@ fn of_table(random: &mut Random, record: &[u8]) -> Vec<Vec<u8>> {
         }
     }
     job.carry_on(100_000).expect("a budget within the cap");
-    let mut records = vec![record.to_vec(), job.shown().bytes()];
-    records.extend(jobs.into_iter().chain([job]).map(|job| Record::Job(job).bytes()));
+    let mut records = vec![record.to_vec()];
+    records.extend(job.shown().bytes());
+    records.extend(jobs.into_iter().chain([job]).map(job_record));
     records.dedup();
     records
 }
 
-/// Records of every kind for n 0 to 8.
+/// Records of kinds 1 to 4 for n 0 to 8.
 pub fn varied(random: &mut Random) -> Vec<Vec<u8>> {
     let mut tables = samples();
     tables.truncate(20);
@@ -97,9 +107,25 @@ pub fn varied(random: &mut Random) -> Vec<Vec<u8>> {
     tables.iter().flat_map(|record| of_table(random, record)).collect()
 }
 
+/// Records of kinds 5 and 6 for n 0 to 8.
+pub fn varied_partial(random: &mut Random) -> Vec<Vec<u8>> {
+    let mut tables = Vec::new();
+    for n in 0..=8 {
+        let families = if n % 2 == 0 { [Family::Threshold, Family::Unate] } else { [Family::NearlyThreshold, Family::Random] };
+        tables.extend(families.map(|family| partial_table(random, family, n)));
+    }
+    tables.iter().flat_map(|record| of_table(random, record)).collect()
+}
+
+/// The bytes of a record before its numbers: kind, n, values and, in kinds 5 and 6, cares.
+pub fn head_length(record: &[u8]) -> usize {
+    let bits = (1usize << record[1]).div_ceil(8);
+    2 + if record[0] >= 5 { 2 * bits } else { bits }
+}
+
 /// The bytes up to the table's last, and the numbers after them: every field past the table is one, or the code of a signed one.
 pub fn taken_apart(record: &[u8]) -> (&[u8], Vec<i64>) {
-    let (head, mut rest) = record.split_at(2 + (1usize << record[1]).div_ceil(8));
+    let (head, mut rest) = record.split_at(head_length(record));
     let mut numbers = Vec::new();
     while !rest.is_empty() {
         let groups = 1 + rest.iter().take_while(|&&byte| byte >= 0x80).count();
@@ -124,7 +150,7 @@ pub fn nudged(random: &mut Random, record: &[u8]) -> Vec<u8> {
             let row = random.choose(&counted);
             let count = std::mem::take(&mut witness.counts[row]);
             witness.counts[row ^ 1 << random.below(table.n)] += count;
-            Record::Witness(table, witness).bytes()
+            Record::Witness(table, witness).bytes().expect("a witness that was read")
         }
         _ => {
             let (head, mut numbers) = taken_apart(record);

@@ -2,7 +2,7 @@
 
 use crate::difference::Difference;
 use crate::random::Random;
-use crate::tables::{table, Family};
+use crate::tables::{partial_table, table, Family};
 use reference::report::{report, LONGEST};
 use std::io::{self, Write};
 use std::process::{Command, Stdio};
@@ -11,8 +11,9 @@ use std::process::{Command, Stdio};
 const PROGRAM: &str = concat!(env!("CARGO_MANIFEST_DIR"), "/../../target/bin/report");
 /// The stored run: for each input a line that names and spells it, and its report.
 const STORED: &str = include_str!("../../../crates/reports_main/stdout");
-/// The random inputs.
+/// The random inputs of kind 1 records, and of kinds 1 and 5.
 const INPUTS: u64 = 5_000;
+const MIXED: u64 = 2_000;
 
 /// How many reports were compared.
 #[derive(Default)]
@@ -30,8 +31,8 @@ pub fn compare_reports(random: &mut Random) -> Result<Reports, Difference> {
         reports.compare(&input, &stored)?;
         reports.stored += 1;
     }
-    for _ in 0..INPUTS {
-        let input = random_input(random);
+    for number in 0..INPUTS + MIXED {
+        let input = random_input(random, number >= INPUTS);
         let written = written_by_program(&input).expect("the program report runs");
         reports.compare(&input, &written)?;
         reports.written += 1;
@@ -84,13 +85,15 @@ fn input_of(line: &str) -> Vec<u8> {
     words.chunks(2).flat_map(|part| bytes(part[1]).repeat(part[0].parse().expect("a number"))).collect()
 }
 
-/// Records of random tables of up to six inputs. One in a hundred is as long as an input may be, or a byte longer; one in three is damaged.
-fn random_input(random: &mut Random) -> Vec<u8> {
+/// Records of random tables of up to six inputs, in a mixed input half of them of kind 5. One in a hundred is as long as an input may be,
+/// or a byte longer; one in three is damaged.
+fn random_input(random: &mut Random, mixed: bool) -> Vec<u8> {
     const FAMILIES: [Family; 5] = [Family::Random, Family::Threshold, Family::Threshold, Family::NearlyThreshold, Family::Unate];
     let mut input = Vec::new();
     for _ in 0..random.choose(&[0, 1, 2, 3, 4, 8, 12, 20, 40]) {
         let (family, n) = (random.choose(&FAMILIES), random.below(7));
-        input.extend(table(random, family, n));
+        let partial = mixed && random.one_in(2);
+        input.extend(if partial { partial_table(random, family, n) } else { table(random, family, n) });
     }
     if !input.is_empty() && random.one_in(100) {
         input = input.repeat(LONGEST / input.len() + 1);

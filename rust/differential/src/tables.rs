@@ -1,4 +1,4 @@
-//! Tables to decide, as kind 1 records.
+//! Tables to decide, as records of kinds 1 and 5.
 
 use crate::random::Random;
 use reference::gate::sum_of_true;
@@ -18,14 +18,31 @@ pub enum Family {
     Unate,
 }
 
+/// The record of a table.
+pub fn record_of(table: Table) -> Vec<u8> {
+    Record::Table(table).bytes().expect("a table has a record")
+}
+
 /// The record of the table with these values.
 pub fn record(n: usize, value: impl FnMut(usize) -> bool) -> Vec<u8> {
-    Record::Table(Table { n, values: (0..1 << n).map(value).collect() }).bytes()
+    record_of(Table::full(n, (0..1 << n).map(value).collect()))
+}
+
+/// The record of the table with these values; a row without one is not cared for.
+fn partial_record(n: usize, value: impl FnMut(usize) -> Option<bool>) -> Vec<u8> {
+    let rows: Vec<Option<bool>> = (0..1 << n).map(value).collect();
+    record_of(Table { n, values: rows.iter().map(|&row| row == Some(true)).collect(), cares: rows.iter().map(Option::is_some).collect() })
 }
 
 /// Every table of n inputs.
 pub fn every_table(n: usize) -> impl Iterator<Item = Vec<u8>> {
     (0..1u64 << (1 << n)).map(move |bits| record(n, |row| bits >> row & 1 == 1))
+}
+
+/// Every table of n inputs with each row true, false or not cared for: 3^(2^n), those with every row cared for among them.
+pub fn every_partial_table(n: usize) -> impl Iterator<Item = Vec<u8>> {
+    let values = [Some(false), Some(true), None];
+    (0..3usize.pow(1 << n)).map(move |code| partial_record(n, |row| values[code / 3usize.pow(row as u32) % 3]))
 }
 
 /// Any number of inputs: mostly one that a table has, or one just above, or one whose lowest bits alone a table has.
@@ -47,6 +64,24 @@ pub fn samples() -> Vec<Vec<u8>> {
         rest = after;
     }
     samples
+}
+
+/// A table with this row not cared for.
+pub fn with_row_free(record: &[u8], free: usize) -> Vec<u8> {
+    let Ok(Record::Table(table)) = Record::read(record) else { panic!("no table") };
+    partial_record(table.n, |row| (row != free && table.cares[row]).then_some(table.values[row]))
+}
+
+/// A random table of the family of which some rows, at least one, are not cared for, and in two of three some have the other value.
+pub fn partial_table(random: &mut Random, family: Family, n: usize) -> Vec<u8> {
+    let Ok(Record::Table(full)) = Record::read(&table(random, family, n)) else { panic!("no table") };
+    // So many of 64 rows are cared for.
+    let cared = if random.one_in(50) { 0 } else { random.choose(&[8, 24, 40, 52, 60, 64]) };
+    let (free, turned) = (random.below(1 << n), random.below(3));
+    partial_record(n, |row| {
+        let turns = random.below(1 << n) < turned;
+        (row != free && random.below(64) < cared).then_some(full.values[row] != turns)
+    })
 }
 
 /// A random table of the family.

@@ -35,7 +35,7 @@ impl Tally {
     }
 }
 
-/// The header's calls, each with 0 and with the numbers of its refusals. Reading's are 1 to 9.
+/// The header's calls, each with 0 and with the numbers of its refusals. Reading's are 1 to 9 and 16.
 fn named() -> BTreeSet<(&'static str, u8)> {
     let parts: Vec<&str> = HEADER.split("\nint64_t threshold_").collect();
     let mut named = BTreeSet::new();
@@ -46,7 +46,7 @@ fn named() -> BTreeSet<(&'static str, u8)> {
         named.insert((name, 0));
         for refusal in refusals.split(", ") {
             match refusal {
-                "reading's" => named.extend((1..=9).map(|number| (name, number))),
+                "reading's" => named.extend((1..=9).chain([16]).map(|number| (name, number))),
                 number => _ = named.insert((name, number.parse().expect("a number"))),
             }
         }
@@ -60,7 +60,7 @@ impl fmt::Display for Tally {
         let names: BTreeSet<&str> = self.0.keys().map(|&(name, _)| name).collect();
         for name in names {
             let of_call = || self.0.iter().filter(|(key, _)| key.0 == name);
-            write!(f, "{name:12} {:9} ", of_call().map(|(_, times)| times).sum::<u64>())?;
+            write!(f, "{name:13} {:9} ", of_call().map(|(_, times)| times).sum::<u64>())?;
             for ((_, number), times) in of_call().filter(|(key, _)| key.1 > 0) {
                 write!(f, " {number}:{times}")?;
             }

@@ -1,6 +1,7 @@
 //! Tables decided: every table of up to four inputs, the samples, and random tables of up to eight.
 
 use crate::call::Call;
+use crate::cares::back_by_cares;
 use crate::compare::Comparison;
 use crate::difference::Difference;
 use crate::digits::back_by_digits;
@@ -9,7 +10,8 @@ use crate::records::nudged;
 use crate::tables::{every_table, samples, table, Family};
 use crate::witnesses::back_by_counts;
 use crate::words::back_by_words;
-use reference::calls::HandedBack;
+use reference::calls::{self, FoundGate, FoundWitness, HandedBack};
+use reference::refusal::Refusal;
 use threshold::{CALL_BUDGET, ROOM};
 
 /// Random tables of each family by n, 0 to 8. The reference takes milliseconds for a gate of eight inputs, and a thousandth of that to
@@ -40,8 +42,8 @@ pub fn compare_verdicts(comparison: &mut Comparison) -> Result<u64, Difference> 
     Ok(verdicts)
 }
 
-/// Compares a table's verdict and the check of its certificate; of one in eight also all else that can be asked: the verdict in other rooms
-/// and by a fresh job, the ways back to both records, inputs and rows, and the check of another certificate.
+/// Compares a table's verdict and the check of its certificate; of one in eight also all else that can be asked: the verdict in other
+/// rooms, in numbers and by a fresh job, the ways back to both records, inputs and rows, and the check of another certificate.
 fn verdict(comparison: &mut Comparison, record: &[u8]) -> Result<(), Difference> {
     let outcome = comparison.compare(Call::Decide, record, ROOM)?;
     let answer = outcome.written().expect("a table is decided");
@@ -51,6 +53,7 @@ fn verdict(comparison: &mut Comparison, record: &[u8]) -> Result<(), Difference>
         for room in [answer.len() - 1, answer.len()] {
             comparison.compare_handing(Call::Decide, record, Ok(handed.clone()), room)?;
         }
+        by_numbers(comparison, record, &handed)?;
         by_fresh_job(comparison, record, handed)?;
         ways_back(comparison, record, answer)?;
         inputs_and_rows(comparison, record)?;
@@ -61,15 +64,34 @@ fn verdict(comparison: &mut Comparison, record: &[u8]) -> Result<(), Difference>
     Ok(())
 }
 
-/// Compares whether digits and words give the table back, and weights or counts its certificate.
+/// Compares whether digits, words and cares give the table back, and weights or counts its certificate.
 fn ways_back(comparison: &mut Comparison, record: &[u8], answer: &[u8]) -> Result<(), Difference> {
     back_by_digits(comparison, record)?;
     back_by_words(comparison, record)?;
+    back_by_cares(comparison, record)?;
     match answer[0] {
         2 => back_by_weights(comparison, answer),
         3 => back_by_counts(comparison, answer),
         _ => comparison.compare(Call::Corrections, answer, 0).map(|_| ()),
     }
+}
+
+/// Compares the gate and the witness that a table's job gives in numbers, by what deciding has written, and the checks of these numbers.
+fn by_numbers(comparison: &mut Comparison, record: &[u8], decided: &HandedBack) -> Result<(), Difference> {
+    let HandedBack { bytes, made } = decided;
+    let (made, call, room) = (*made, Call::FindGate(CALL_BUDGET), 8);
+    let gate = calls::gate(bytes, room).map(|(weights, threshold)| FoundGate { weights, threshold, made }).map_err(|_| Refusal::NotFound);
+    let outcome = comparison.compare_finding(call, record, room, |lent| lent.finding_gate(gate))?;
+    if let Ok(inputs) = outcome.said {
+        comparison.compare(Call::CheckGate(&outcome.lent.weights[..inputs], outcome.lent.threshold), record, 0)?;
+    }
+    let (call, room) = (Call::FindWitness(CALL_BUDGET), 256);
+    let witness = calls::witness(bytes, room).map(|counts| FoundWitness { counts, made }).map_err(|_| Refusal::NotFound);
+    let outcome = comparison.compare_finding(call, record, room, |lent| lent.finding_witness(witness))?;
+    if let Ok(rows) = outcome.said {
+        comparison.compare(Call::CheckWitness(&outcome.lent.counts[..rows]), record, 0)?;
+    }
+    Ok(())
 }
 
 /// Compares the fresh job of a table, its corrections, and whether it is carried on to what deciding gives; one that has ended is that.
@@ -89,7 +111,7 @@ fn by_fresh_job(comparison: &mut Comparison, record: &[u8], decided: HandedBack)
 }
 
 /// Compares the kinds and Chow's parameters, with any room, and the value on each row and past the last.
-fn inputs_and_rows(comparison: &mut Comparison, record: &[u8]) -> Result<(), Difference> {
+pub fn inputs_and_rows(comparison: &mut Comparison, record: &[u8]) -> Result<(), Difference> {
     for call in [Call::Kinds, Call::Chow] {
         let room = comparison.random.below(24);
         comparison.compare(call, record, room)?;

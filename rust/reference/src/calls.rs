@@ -16,9 +16,34 @@ pub struct HandedBack {
     pub made: u32,
 }
 
+/// The gate that a job has found: its weights and T, and the corrections made in the call.
+#[derive(Clone, Debug, PartialEq, Eq)]
+pub struct FoundGate {
+    pub weights: Vec<i32>,
+    pub threshold: i32,
+    pub made: u32,
+}
+
+/// The witness that a job has ended with: its counts, and the corrections made in the call.
+#[derive(Clone, Debug, PartialEq, Eq)]
+pub struct FoundWitness {
+    pub counts: Vec<u32>,
+    pub made: u32,
+}
+
+/// The table of a record of kind 1 or 5.
 fn table_of(record: &[u8]) -> Result<Table, Refusal> {
     match Record::read(record)? {
         Record::Table(table) => Ok(table),
+        _ => Err(Refusal::OtherKind),
+    }
+}
+
+/// The job of a record of kind 4 or 6, or the fresh job of a table.
+fn job_of(record: &[u8]) -> Result<Job, Refusal> {
+    match Record::read(record)? {
+        Record::Table(table) => Ok(Job::fresh(table)),
+        Record::Job(job) => Ok(job),
         _ => Err(Refusal::OtherKind),
     }
 }
@@ -28,20 +53,30 @@ fn fitting<T>(answer: Vec<T>, room: usize) -> Result<Vec<T>, Refusal> {
     Ok(answer)
 }
 
+/// The record's bytes: 16 where its table cannot be in one of its kind, then 12.
+fn written(record: Record, room: usize) -> Result<Vec<u8>, Refusal> {
+    fitting(record.bytes()?, room)
+}
+
 /// The record of the table that hex digits stand for.
 pub fn from_hex(inputs: u32, digits: &[u8], room: usize) -> Result<Vec<u8>, Refusal> {
-    fitting(Record::Table(notation::from_hex(inputs, digits)?).bytes(), room)
+    written(Record::Table(notation::from_hex(inputs, digits)?), room)
 }
 
 /// The record of the table that words stand for.
 pub fn from_words(inputs: u32, words: &[u64], room: usize) -> Result<Vec<u8>, Refusal> {
-    fitting(Record::Table(notation::from_words(inputs, words)?).bytes(), room)
+    written(Record::Table(notation::from_words(inputs, words)?), room)
+}
+
+/// The record of the table that words stand for, with the rows cared for that other words say.
+pub fn from_cares(inputs: u32, words: &[u64], cares: &[u64], room: usize) -> Result<Vec<u8>, Refusal> {
+    written(Record::Table(notation::from_cares(inputs, words, cares)?), room)
 }
 
 /// The job carried on by the budget.
 pub fn carried(job: &mut Job, budget: u32, room: usize) -> Result<HandedBack, Refusal> {
     let made = job.carry_on(budget)? as u32;
-    Ok(HandedBack { bytes: fitting(job.shown().bytes(), room)?, made })
+    Ok(HandedBack { bytes: written(job.shown(), room)?, made })
 }
 
 /// The fresh job of a table, carried on by 100,000.
@@ -57,7 +92,34 @@ pub fn carry_on(record: &[u8], budget: u32, room: usize) -> Result<HandedBack, R
 
 /// The record of what the fresh job of a table shows: itself, or the witness of a table with a binate input.
 pub fn fresh(record: &[u8], room: usize) -> Result<Vec<u8>, Refusal> {
-    fitting(Job::fresh(table_of(record)?).shown().bytes(), room)
+    written(Job::fresh(table_of(record)?).shown(), room)
+}
+
+/// The gate that a job has found after these corrections.
+pub fn gate_of_job(job: &Job, made: u32, room: usize) -> Result<FoundGate, Refusal> {
+    let Gate { weights, threshold } = job.gate().ok_or(Refusal::NotFound)?;
+    let weights = fitting(weights.into_iter().map(|weight| weight as i32).collect(), room)?;
+    Ok(FoundGate { weights, threshold: threshold as i32, made })
+}
+
+/// The witness that a job has ended with after these corrections.
+pub fn witness_of_job(job: &Job, made: u32, room: usize) -> Result<FoundWitness, Refusal> {
+    let Witness { counts } = job.witness().ok_or(Refusal::NotFound)?;
+    Ok(FoundWitness { counts: fitting(counts.into_iter().map(|count| count as u32).collect(), room)?, made })
+}
+
+/// The gate that a job, saved or fresh, has found when it is carried on by the budget.
+pub fn find_gate(record: &[u8], budget: u32, room: usize) -> Result<FoundGate, Refusal> {
+    let mut job = job_of(record)?;
+    let made = job.carry_on(budget)? as u32;
+    gate_of_job(&job, made, room)
+}
+
+/// The witness that a job, saved or fresh, has ended with when it is carried on by the budget.
+pub fn find_witness(record: &[u8], budget: u32, room: usize) -> Result<FoundWitness, Refusal> {
+    let mut job = job_of(record)?;
+    let made = job.carry_on(budget)? as u32;
+    witness_of_job(&job, made, room)
 }
 
 /// K of a saved job.
@@ -90,28 +152,56 @@ pub fn witness(record: &[u8], room: usize) -> Result<Vec<u32>, Refusal> {
     fitting(counts.into_iter().map(|count| count as u32).collect(), room)
 }
 
+/// A gate of these numbers, within their range.
+fn gate_of(weights: &[i32], threshold: i32) -> Result<Gate, Refusal> {
+    let (weights, threshold): (Vec<i64>, i64) = (weights.iter().map(|&weight| weight.into()).collect(), threshold.into());
+    demand(weights.iter().chain([&threshold]).all(|number| number.abs() <= gate::LIMIT), Refusal::GateRange)?;
+    Ok(Gate { weights, threshold })
+}
+
+/// A witness of these counts, within their range and not all 0.
+fn witness_of(counts: &[u32]) -> Result<Witness, Refusal> {
+    let counts: Vec<i64> = counts.iter().map(|&count| count.into()).collect();
+    demand(counts.iter().all(|&count| count <= witness::LIMIT), Refusal::RowList)?;
+    demand(counts.iter().any(|&count| count > 0), Refusal::RowList)?;
+    Ok(Witness { counts })
+}
+
 /// The record of a table with a gate of these weights and this T.
 pub fn from_gate(record: &[u8], weights: &[i32], threshold: i32, room: usize) -> Result<Vec<u8>, Refusal> {
     let table = table_of(record)?;
     demand(weights.len() == table.n, Refusal::NumberCount)?;
-    let (weights, threshold): (Vec<i64>, i64) = (weights.iter().map(|&weight| weight.into()).collect(), threshold.into());
-    demand(weights.iter().chain([&threshold]).all(|number| number.abs() <= gate::LIMIT), Refusal::GateRange)?;
-    fitting(Record::Gate(table, Gate { weights, threshold }).bytes(), room)
+    demand(table.is_full(), Refusal::Care)?;
+    let gate = gate_of(weights, threshold)?;
+    written(Record::Gate(table, gate), room)
 }
 
 /// The record of a table with a witness of these counts.
 pub fn from_witness(record: &[u8], counts: &[u32], room: usize) -> Result<Vec<u8>, Refusal> {
     let table = table_of(record)?;
     demand(counts.len() == table.rows().len(), Refusal::NumberCount)?;
-    let counts: Vec<i64> = counts.iter().map(|&count| count.into()).collect();
-    demand(counts.iter().all(|&count| count <= witness::LIMIT), Refusal::RowList)?;
-    demand(counts.iter().any(|&count| count > 0), Refusal::RowList)?;
-    fitting(Record::Witness(table, Witness { counts }).bytes(), room)
+    demand(table.is_full(), Refusal::Care)?;
+    let witness = witness_of(counts)?;
+    written(Record::Witness(table, witness), room)
+}
+
+/// Whether the gate of these weights and this T realises the table.
+pub fn check_gate(record: &[u8], weights: &[i32], threshold: i32) -> Result<bool, Refusal> {
+    let table = table_of(record)?;
+    demand(weights.len() == table.n, Refusal::NumberCount)?;
+    Ok(gate_of(weights, threshold)?.realises(&table))
+}
+
+/// Whether the witness of these counts balances against the table.
+pub fn check_witness(record: &[u8], counts: &[u32]) -> Result<bool, Refusal> {
+    let table = table_of(record)?;
+    demand(counts.len() == table.rows().len(), Refusal::NumberCount)?;
+    Ok(witness_of(counts)?.balances(&table))
 }
 
 /// The kind of the record.
 pub fn kind(record: &[u8]) -> Result<u8, Refusal> {
-    Ok(Record::read(record)?.kind())
+    Record::read(record)?.kind()
 }
 
 /// A byte for each of eight inputs, its kind; past n idle.

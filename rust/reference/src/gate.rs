@@ -23,8 +23,8 @@ impl Gate {
         sum_of_true(&self.weights, row) >= self.threshold
     }
 
-    /// Whether the gate agrees with the table on every row.
+    /// Whether the gate agrees with the table on every row cared for.
     pub fn realises(&self, table: &Table) -> bool {
-        table.rows().all(|row| self.value(row) == table.values[row])
+        table.cared_rows().all(|row| self.value(row) == table.values[row])
     }
 }

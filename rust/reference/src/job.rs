@@ -1,4 +1,4 @@
-//! "The stepping machine": jobs, one step, carry-on, and when a job is sound.
+//! "The stepping machine": jobs, one step, carry-on, and when a job is sound; with the meanings of document 02, §3.
 
 use crate::gate::{sum_of_true, Gate};
 use crate::record::Record;
@@ -63,7 +63,7 @@ impl Job {
     /// The most corrections of one carry-on.
     pub const CALL_BUDGET: i64 = 100_000;
 
-    /// The fresh job: all numbers 0, or a binate table's four counts.
+    /// The fresh job: all numbers 0, or a binate table's four counts. Without a failing row it is found.
     pub fn fresh(table: Table) -> Job {
         let zero = Vector::zero(table.n);
         let mut job = Job { k: 0, v: zero.clone(), mark: 0, s: zero, counts: vec![0; table.values.len()], stage: Stage::Open, table };
@@ -73,6 +73,8 @@ impl Job {
                 job.counts[partner(row, input)] = 1;
             }
             job.stage = Stage::Binate;
+        } else if job.lowest_failing().is_none() {
+            job.stage = Stage::Found;
         }
         job
     }
@@ -84,13 +86,13 @@ impl Job {
         job
     }
 
-    /// Whether the row fails: its distance is below 1 on a true row, above -1 on a false row.
+    /// Whether the row fails: its distance is below 1 on a true row, above -1 on a false row. One that is not cared for never fails.
     pub fn fails(&self, row: usize) -> bool {
         let distance = sum_of_true(&self.v.a, row) - self.v.b;
-        if self.table.values[row] {
-            distance < 1
-        } else {
-            distance > -1
+        match (self.table.cares[row], self.table.values[row]) {
+            (false, _) => false,
+            (true, true) => distance < 1,
+            (true, false) => distance > -1,
         }
     }
 
@@ -139,13 +141,23 @@ impl Job {
         Ok(self.k - before)
     }
 
+    /// The gate of a job that has found one.
+    pub fn gate(&self) -> Option<Gate> {
+        (self.stage == Stage::Found).then(|| Gate { weights: self.v.a.clone(), threshold: self.v.b })
+    }
+
+    /// The witness of a job that has ended with one.
+    pub fn witness(&self) -> Option<Witness> {
+        matches!(self.stage, Stage::Looped | Stage::Binate).then(|| Witness { counts: self.counts.clone() })
+    }
+
     /// What the job shows: its gate, its witness, or itself while it is open.
     pub fn shown(&self) -> Record {
         let table = self.table.clone();
-        match self.stage {
-            Stage::Open => Record::Job(self.clone()),
-            Stage::Found => Record::Gate(table, Gate { weights: self.v.a.clone(), threshold: self.v.b }),
-            Stage::Looped | Stage::Binate => Record::Witness(table, Witness { counts: self.counts.clone() }),
+        match (self.gate(), self.witness()) {
+            (Some(gate), _) => Record::Gate(table, gate),
+            (_, Some(witness)) => Record::Witness(table, witness),
+            _ => Record::Job(self.clone()),
         }
     }
 
@@ -167,7 +179,7 @@ impl Job {
         v
     }
 
-    /// "A sound job has:" each of the document's lines.
+    /// "A sound job has:" each of the document's lines, and no count on a row that is not cared for.
     pub fn is_sound(&self) -> bool {
         if self.stage == Stage::Binate {
             return *self == Job::fresh(self.table.clone());
@@ -180,7 +192,8 @@ impl Job {
             Stage::Found => self.lowest_failing().is_none(),
             _ => self.v == self.s,
         };
-        ranges && marked && counted && staged && self.table.lowest_binate().is_none()
+        let cared_for = self.table.rows().all(|row| self.table.cares[row] || self.counts[row] == 0);
+        ranges && marked && counted && cared_for && staged && self.table.lowest_binate().is_none()
     }
 
     /// An open job with these numbers, which need not be sound. A record holds no mark: it is the one that goes with K.

@@ -1,4 +1,4 @@
-//! The threshold cell verdict, written from document 01 and document 02, §1 and §2, and from nothing else: what the proved library and the
+//! The threshold cell verdict, written from document 01 and document 02, §1 to §3, and from nothing else: what the proved library and the
 //! report are compared with. What the documents do not have, the shape of the C interface, its numbers from 100 on and tables as digits and
 //! words, is in [`calls`] and [`notation`], from the text of `include/threshold.h`.
 //!
@@ -16,6 +16,8 @@ pub mod report;
 pub mod table;
 pub mod witness;
 
+#[cfg(test)]
+mod cared;
 #[cfg(test)]
 mod header;
 #[cfg(test)]

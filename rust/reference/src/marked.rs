@@ -75,7 +75,7 @@ fn chow_parameters() {
 #[test]
 fn published_counts_of_threshold_tables() {
     for (n, published) in [(0, 2), (1, 4), (2, 14), (3, 104), (4, 1882)] {
-        let tables = (0..1u64 << (1 << n)).map(|bits| Table { n, values: (0..1 << n).map(|row| (bits >> row) & 1 == 1).collect() });
+        let tables = (0..1u64 << (1 << n)).map(|bits| Table::full(n, (0..1 << n).map(|row| (bits >> row) & 1 == 1).collect()));
         assert_eq!(tables.filter(|table| settled(table.clone()).stage == Stage::Found).count(), published);
     }
 }
@@ -85,7 +85,7 @@ fn published_counts_of_threshold_tables() {
 fn refusals_in_their_order() {
     let cases: [(&[u8], u8); 22] = [
         (&[], 1),
-        (&[5], 5),
+        (&[7], 5),
         (&[1], 1),
         (&[1, 9], 2),
         (&[1, 0x80], 1),

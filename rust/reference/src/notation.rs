@@ -9,9 +9,14 @@ fn rows(inputs: u32) -> Result<usize, Refusal> {
     Ok((0..inputs).fold(1, |rows, _| 2 * rows))
 }
 
-/// The table of the first bits, as many as it has rows.
+/// The table of the first bits, as many as it has rows, with every row cared for.
 fn table(inputs: u32, bits: impl Iterator<Item = bool>) -> Result<Table, Refusal> {
-    Ok(Table { n: inputs as usize, values: bits.take(rows(inputs)?).collect() })
+    Ok(Table::full(inputs as usize, bits.take(rows(inputs)?).collect()))
+}
+
+/// The bits of words, the lowest first, one word after another.
+fn bits_of(words: &[u64]) -> impl Iterator<Item = bool> + '_ {
+    words.iter().flat_map(|word| (0..64).map(move |bit| (word >> bit) % 2 == 1))
 }
 
 /// The table that hex digits stand for. Written out as bits, the highest of each digit first, the last is that of row 0.
@@ -25,8 +30,15 @@ pub fn from_hex(inputs: u32, digits: &[u8]) -> Result<Table, Refusal> {
     table(inputs, bits.into_iter().rev())
 }
 
-/// The table that words of 64 rows stand for: the bits of each, the lowest first, one word after another.
+/// The table that words of 64 rows stand for.
 pub fn from_words(inputs: u32, words: &[u64]) -> Result<Table, Refusal> {
     demand(64 * words.len() >= rows(inputs)?, Refusal::TooFewWords)?;
-    table(inputs, words.iter().flat_map(|word| (0..64).map(move |bit| (word >> bit) % 2 == 1)))
+    table(inputs, bits_of(words))
+}
+
+/// The table that words of 64 rows stand for, with the rows cared for that words laid out alike say.
+pub fn from_cares(inputs: u32, words: &[u64], cares: &[u64]) -> Result<Table, Refusal> {
+    let rows = rows(inputs)?;
+    demand(64 * words.len() >= rows && 64 * cares.len() >= rows, Refusal::TooFewWords)?;
+    Table::with_cares(inputs as usize, bits_of(words).take(rows).collect(), bits_of(cares).take(rows).collect())
 }

@@ -1,4 +1,4 @@
-//! "Records": what is read from bytes and written as bytes.
+//! "Records": what is read from bytes and written as bytes, with kinds 5 and 6 of document 02, §3.
 
 use crate::gate::{self, Gate};
 use crate::job::{Job, Vector};
@@ -6,7 +6,7 @@ use crate::refusal::{demand, Refusal};
 use crate::table::Table;
 use crate::witness::{self, Witness};
 
-/// A record, by its kind: 1 to 4.
+/// A record. A table or an open job is of kind 1 or 4 where every row is cared for, and else of kind 5 or 6.
 #[derive(Clone, Debug, PartialEq, Eq)]
 pub enum Record {
     Table(Table),
@@ -48,16 +48,27 @@ impl Reader<'_> {
         Ok(if code % 2 == 0 { code / 2 } else { -(code + 1) / 2 })
     }
 
-    /// n and the table bytes: row r is bit r mod 8 of byte r div 8.
-    fn table(&mut self) -> Result<Table, Refusal> {
-        let n = self.number()?;
-        demand(n <= 8, Refusal::InputsAboveEight)?;
-        let rows: usize = 1 << n;
+    /// A bit for each row: row r is bit r mod 8 of byte r div 8, and spare bits are 0.
+    fn bits(&mut self, rows: usize) -> Result<Vec<bool>, Refusal> {
         let bytes = (0..rows.div_ceil(8)).map(|_| self.byte()).collect::<Result<Vec<u8>, Refusal>>()?;
         let mut bits = (0..8 * bytes.len()).map(|bit| (bytes[bit / 8] >> (bit % 8)) & 1 == 1);
-        let values = bits.by_ref().take(rows).collect();
+        let of_rows = bits.by_ref().take(rows).collect();
         demand(bits.all(|spare| !spare), Refusal::SpareBit)?;
-        Ok(Table { n: n as usize, values })
+        Ok(of_rows)
+    }
+
+    /// n, the value bytes and, in kinds 5 and 6, the care bytes. These kinds carry a table with a row that is not cared for.
+    fn table(&mut self, kind: u8) -> Result<Table, Refusal> {
+        let n = self.number()?;
+        demand(n <= 8, Refusal::InputsAboveEight)?;
+        let values = self.bits(1 << n)?;
+        if kind < 5 {
+            return Ok(Table::full(n as usize, values));
+        }
+        let cares = self.bits(1 << n)?;
+        let table = Table::with_cares(n as usize, values, cares)?;
+        demand(!table.is_full(), Refusal::Care)?;
+        Ok(table)
     }
 
     fn gate(&mut self, n: usize) -> Result<Gate, Refusal> {
@@ -119,10 +130,10 @@ impl Reader<'_> {
 
     fn record(&mut self) -> Result<Record, Refusal> {
         let kind = self.byte()?;
-        demand((1..=4).contains(&kind), Refusal::UnknownKind)?;
-        let table = self.table()?;
+        demand((1..=6).contains(&kind), Refusal::UnknownKind)?;
+        let table = self.table(kind)?;
         Ok(match kind {
-            1 => Record::Table(table),
+            1 | 5 => Record::Table(table),
             2 => {
                 let gate = self.gate(table.n)?;
                 Record::Gate(table, gate)
@@ -153,6 +164,13 @@ fn put_all_signed(out: &mut Vec<u8>, numbers: &[i64], last: i64) {
     numbers.iter().chain([&last]).for_each(|&z| put_signed(out, z));
 }
 
+/// Writes a bit for each row.
+fn put_bits(out: &mut Vec<u8>, bits: &[bool]) {
+    for rows in bits.chunks(8) {
+        out.push(rows.iter().enumerate().map(|(bit, &value)| u8::from(value) << bit).sum());
+    }
+}
+
 fn put_row_list(out: &mut Vec<u8>, counts: &[i64]) {
     put_number(out, counts.iter().filter(|&&count| count > 0).count() as i64);
     for (row, &count) in counts.iter().enumerate().filter(|(_, &count)| count > 0) {
@@ -170,21 +188,25 @@ impl Record {
         Ok(record)
     }
 
-    /// The table that the bytes begin with, and the bytes after it. In a report any kind but 1 is refused.
+    /// The table that the bytes begin with, and the bytes after it. In a report any kind but 1 and 5 is refused.
     pub fn first_table(bytes: &[u8]) -> Result<(Table, &[u8]), Refusal> {
         let mut reader = Reader { bytes, at: 0 };
-        demand(reader.byte()? == 1, Refusal::UnknownKind)?;
-        let table = reader.table()?;
+        let kind = reader.byte()?;
+        demand([1, 5].contains(&kind), Refusal::UnknownKind)?;
+        let table = reader.table(kind)?;
         Ok((table, &bytes[reader.at..]))
     }
 
-    /// The kind byte, 1 to 4.
-    pub fn kind(&self) -> u8 {
-        match self {
-            Record::Table(_) => 1,
-            Record::Gate(..) => 2,
-            Record::Witness(..) => 3,
-            Record::Job(_) => 4,
+    /// The kind byte, 1 to 6. A gate or a witness for a table with a row that is not cared for has none.
+    pub fn kind(&self) -> Result<u8, Refusal> {
+        match (self, self.table().is_full()) {
+            (Record::Table(_), true) => Ok(1),
+            (Record::Gate(..), true) => Ok(2),
+            (Record::Witness(..), true) => Ok(3),
+            (Record::Job(_), true) => Ok(4),
+            (Record::Table(_), false) => Ok(5),
+            (Record::Job(_), false) => Ok(6),
+            (Record::Gate(..) | Record::Witness(..), false) => Err(Refusal::Care),
         }
     }
 
@@ -195,13 +217,14 @@ impl Record {
         }
     }
 
-    /// The bytes of the record.
-    pub fn bytes(&self) -> Vec<u8> {
+    /// The bytes of the record, if its table can be in one of its kind.
+    pub fn bytes(&self) -> Result<Vec<u8>, Refusal> {
         let table = self.table();
-        let mut out = vec![self.kind()];
+        let mut out = vec![self.kind()?];
         put_number(&mut out, table.n as i64);
-        for rows in table.values.chunks(8) {
-            out.push(rows.iter().enumerate().map(|(bit, &value)| u8::from(value) << bit).sum());
+        put_bits(&mut out, &table.values);
+        if !table.is_full() {
+            put_bits(&mut out, &table.cares);
         }
         match self {
             Record::Table(_) => {}
@@ -214,6 +237,6 @@ impl Record {
                 put_row_list(&mut out, &job.counts);
             }
         }
-        out
+        Ok(out)
     }
 }

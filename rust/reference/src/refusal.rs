@@ -1,6 +1,6 @@
 //! "Who causes which number": the refusals that calls on records can give.
 
-/// A refusal, by document 01's number; those from 100 on are the C interface's own.
+/// A refusal, by the number of document 01 or 02; those from 100 on are the C interface's own.
 #[derive(Clone, Copy, Debug, PartialEq, Eq)]
 pub enum Refusal {
     EndsEarly = 1,
@@ -16,11 +16,13 @@ pub enum Refusal {
     Cap = 11,
     BufferTooShort = 12,
     RowPastTable = 14,
+    Care = 16,
     OtherKind = 100,
     DigitCount = 101,
     NotADigit = 102,
     TooFewWords = 103,
     NumberCount = 104,
+    NotFound = 105,
 }
 
 /// Refuses unless the rule is kept.

@@ -1,10 +1,13 @@
-//! "Table, gate, witness": the table, and the kinds and Chow's parameters of its inputs.
+//! "Table, gate, witness": the table, with the rows cared for of document 02, §3, and the kinds and Chow's parameters of its inputs.
 
-/// A table of n inputs, 0 to 8: the value of each of the 2^n rows.
+use crate::refusal::{demand, Refusal};
+
+/// A table of n inputs, 0 to 8: the value of each of the 2^n rows, and whether it is cared for. One that is not has value false.
 #[derive(Clone, Debug, PartialEq, Eq, Hash)]
 pub struct Table {
     pub n: usize,
     pub values: Vec<bool>,
+    pub cares: Vec<bool>,
 }
 
 /// What making an input true does to the table's value.
@@ -32,14 +35,36 @@ pub fn partner(row: usize, input: usize) -> usize {
 }
 
 impl Table {
+    /// The table of these values, with every row cared for.
+    pub fn full(n: usize, values: Vec<bool>) -> Table {
+        Table { n, cares: vec![true; values.len()], values }
+    }
+
+    /// The table of these values and cares, if no row that is not cared for has a value bit.
+    pub fn with_cares(n: usize, values: Vec<bool>, cares: Vec<bool>) -> Result<Table, Refusal> {
+        demand(values.iter().zip(&cares).all(|(&value, &cared)| cared || !value), Refusal::Care)?;
+        Ok(Table { n, values, cares })
+    }
+
+    /// Whether every row is cared for.
+    pub fn is_full(&self) -> bool {
+        self.cares.iter().all(|&cared| cared)
+    }
+
     /// The numbers of the rows.
     pub fn rows(&self) -> std::ops::Range<usize> {
         0..1 << self.n
     }
 
-    /// The lowest row without the input whose value is `before`, and `after` with the input made true.
+    /// The numbers of the rows cared for.
+    pub fn cared_rows(&self) -> impl Iterator<Item = usize> + '_ {
+        self.rows().filter(|&row| self.cares[row])
+    }
+
+    /// The lowest row without the input whose value is `before`, and `after` with the input made true; both rows are cared for.
     fn lowest_turn(&self, input: usize, before: bool, after: bool) -> Option<usize> {
-        self.rows().find(|&row| !is_true(row, input) && self.values[row] == before && self.values[partner(row, input)] == after)
+        let turns = |row: usize| self.values[row] == before && self.values[partner(row, input)] == after;
+        self.cared_rows().find(|&row| !is_true(row, input) && self.cares[partner(row, input)] && turns(row))
     }
 
     /// The lowest row without the input where making it true turns the table from false to true.

@@ -1,6 +1,7 @@
 //! Gates.
 
-use crate::record::{answered, over_record, with_table, Record};
+use crate::claim::{over_claim, Claim};
+use crate::record::{answered, Record};
 use crate::{calls, Refusal, Table};
 use std::{array, fmt, iter, ops, slice};
 
@@ -8,10 +9,9 @@ use std::{array, fmt, iter, ops, slice};
 ///
 /// It is shown as an inequality: `2 x1 + 3 x2 >= 4`. Weights of 0 are left out.
 #[derive(Clone, PartialEq, Eq, Hash)]
-pub struct Gate(pub(crate) Record);
+pub struct Gate(pub(crate) Claim<(Weights, i32)>);
 
-over_record!(Gate, 2);
-with_table!(Gate);
+over_claim!(Gate, 2);
 
 impl Gate {
     /// A gate that is proposed for a table: a weight for each input, and the threshold.
@@ -30,7 +30,21 @@ impl Gate {
     /// [`Refusal::Numbers`] if there is not a weight for each input, then [`Refusal::Gate`] if one or the threshold is beyond 1,000,000
     /// either way.
     pub fn new(table: &Table, weights: &[i32], threshold: i32) -> Result<Gate, Refusal> {
-        Record::written_by(|out| calls::from_gate(table.record(), weights, threshold, out)).map(Gate)
+        if !table.is_partial() {
+            return Record::written_by(|out| calls::from_gate(table.record(), weights, threshold, out))
+                .map(|record| Gate(Claim::Record(record)));
+        }
+        calls::check_gate(table.record(), weights, threshold)?;
+        let mut numbers = [0; 8];
+        numbers[..weights.len()].copy_from_slice(weights);
+        Ok(Gate(Claim::Numbers(table.0.clone(), (Weights { numbers, count: weights.len() }, threshold))))
+    }
+
+    /// The gate that the job of a record, of a table with a row not cared for, finds within the budget, and the corrections made.
+    pub(crate) fn found(job: &Record, budget: u32) -> Result<(Gate, u32), Refusal> {
+        let (mut numbers, mut threshold, mut made) = ([0; 8], 0, 0);
+        let count = calls::find_gate(job.bytes(), budget, &mut numbers, &mut threshold, &mut made)?;
+        Ok((Gate(Claim::Numbers(job.table().0, (Weights { numbers, count }, threshold))), made))
     }
 
     /// The weights of the inputs, from input 1 on.
@@ -45,23 +59,37 @@ impl Gate {
 
     /// The weights and the threshold.
     fn numbers(&self) -> (Weights, i32) {
-        let (mut numbers, mut threshold) = ([0; 8], 0);
-        let count = answered(calls::gate(self.record(), &mut numbers, &mut threshold));
-        (Weights { numbers, count }, threshold)
+        match &self.0 {
+            Claim::Record(record) => {
+                let (mut numbers, mut threshold) = ([0; 8], 0);
+                let count = answered(calls::gate(record.bytes(), &mut numbers, &mut threshold));
+                (Weights { numbers, count }, threshold)
+            }
+            Claim::Numbers(_, numbers) => *numbers,
+        }
     }
 
-    /// The gate's value on a row.
+    /// The gate's value on a row, cared for or not.
     ///
     /// # Errors
     ///
     /// [`Refusal::Row`] for a row at or above 2^n.
     pub fn value(&self, row: u32) -> Result<bool, Refusal> {
-        calls::value(self.record(), row)
+        match &self.0 {
+            Claim::Record(record) => calls::value(record.bytes(), row),
+            // A gate's value is not its table's: the record is of the same gate for a table with every row cared for.
+            Claim::Numbers(table, (weights, threshold)) => {
+                answered(Gate::new(&answered(Table::new(table.inputs(), table.table_bytes())), weights, *threshold)).value(row)
+            }
+        }
     }
 
-    /// Whether the gate has the table's value on every row.
+    /// Whether the gate has the table's value on every row that is cared for.
     pub fn realises(&self) -> bool {
-        answered(calls::check(self.record()))
+        answered(match &self.0 {
+            Claim::Record(record) => calls::check(record.bytes()),
+            Claim::Numbers(table, (weights, threshold)) => calls::check_gate(table.bytes(), weights, *threshold),
+        })
     }
 }
 

@@ -1,6 +1,7 @@
 //! Verdicts with the corrections made, and the job of a table that is still open.
 
-use crate::record::{answered, over_record, with_table, Record};
+use crate::claim::Claim;
+use crate::record::{answered, over_record, Record};
 use crate::{calls, Gate, Refusal, Table, Witness};
 use std::fmt;
 
@@ -9,7 +10,7 @@ use std::fmt;
 /// It is shown as `gate 2 x1 + 3 x2 >= 4`, `no gate 3 12 = 6 9` or `open at K 100000`.
 #[derive(Clone, Debug, PartialEq, Eq, Hash)]
 pub enum Verdict {
-    /// One gate carries the table.
+    /// One gate carries the table: it agrees on every row that is cared for.
     Gate(Gate),
     /// No gate of any weights does: the witness balances.
     Witness(Witness),
@@ -32,11 +33,10 @@ pub struct Outcome {
 #[derive(Clone, PartialEq, Eq, Hash)]
 pub struct SavedJob(Record);
 
-over_record!(SavedJob, 4);
-with_table!(SavedJob);
+over_record!(SavedJob, 4, 6);
 
 impl SavedJob {
-    /// The fresh job of a table, if no input is binate; [`Table::fresh`] gives the witness too.
+    /// The fresh job of a table, if it is open: no input is binate, and some row is cared for. [`Table::fresh`] gives the verdict too.
     pub fn fresh(table: &Table) -> Option<SavedJob> {
         match table.fresh() {
             Verdict::Open(job) => Some(job),
@@ -51,7 +51,12 @@ impl SavedJob {
     /// [`Refusal::Budget`] for a budget of 0 or above [`CALL_BUDGET`](crate::CALL_BUDGET), then [`Refusal::Cap`] if the job could pass
     /// [`CAP`](crate::CAP) corrections with it.
     pub fn carry_on(&self, budget: u32) -> Result<Outcome, Refusal> {
-        Outcome::of(|out, made| calls::carry_on(self.record(), budget, out, made))
+        Outcome::of(&self.0, budget, |out, made| calls::carry_on(self.record(), budget, out, made))
+    }
+
+    /// The table that this is about.
+    pub fn table(&self) -> Table {
+        self.0.table()
     }
 
     /// The corrections made so far, K.
@@ -61,20 +66,42 @@ impl SavedJob {
 }
 
 impl Outcome {
-    /// What the call writes and makes.
-    pub(crate) fn of(call: impl FnOnce(&mut [u8], &mut u32) -> Result<usize, Refusal>) -> Result<Outcome, Refusal> {
+    /// What the call writes and makes; or, where no record carries what the job has come to, what the job of the record finds within the
+    /// budget of the call.
+    pub(crate) fn of(
+        job: &Record,
+        budget: u32,
+        call: impl FnOnce(&mut [u8], &mut u32) -> Result<usize, Refusal>,
+    ) -> Result<Outcome, Refusal> {
         let mut made = 0;
-        let record = Record::written_by(|out| call(out, &mut made))?;
-        Ok(Outcome { verdict: Verdict::of(record), made })
+        match Record::written_by(|out| call(out, &mut made)) {
+            Ok(record) => Ok(Outcome { verdict: Verdict::of(record), made }),
+            Err(Refusal::Care) => Ok(Outcome::found(job, budget)),
+            Err(refusal) => Err(refusal),
+        }
+    }
+
+    /// The gate or the witness with which the job of a record ends within the budget.
+    fn found(job: &Record, budget: u32) -> Outcome {
+        match Gate::found(job, budget) {
+            Err(Refusal::NotFound) => {
+                let (witness, made) = answered(Witness::found(job, budget));
+                Outcome { verdict: Verdict::Witness(witness), made }
+            }
+            gate => {
+                let (gate, made) = answered(gate);
+                Outcome { verdict: Verdict::Gate(gate), made }
+            }
+        }
     }
 }
 
 impl Verdict {
-    /// The verdict that the library has written: kind 2, 3 or 4.
-    pub(crate) fn of(record: Record) -> Verdict {
+    /// The verdict that the library has written: kind 2, 3, 4 or 6.
+    fn of(record: Record) -> Verdict {
         match record.kind() {
-            2 => Verdict::Gate(Gate(record)),
-            3 => Verdict::Witness(Witness(record)),
+            2 => Verdict::Gate(Gate(Claim::Record(record))),
+            3 => Verdict::Witness(Witness(Claim::Record(record))),
             _ => Verdict::Open(SavedJob(record)),
         }
     }
@@ -93,5 +120,11 @@ impl fmt::Display for Verdict {
 impl fmt::Display for SavedJob {
     fn fmt(&self, f: &mut fmt::Formatter) -> fmt::Result {
         write!(f, "open at K {}", self.corrections())
+    }
+}
+
+impl fmt::Debug for SavedJob {
+    fn fmt(&self, f: &mut fmt::Formatter) -> fmt::Result {
+        write!(f, "SavedJob({}: {self})", self.table().described())
     }
 }

@@ -1,15 +1,15 @@
 //! A record that the library has read or written, and what the types over one share.
 
-use crate::{calls, Refusal, ROOM};
+use crate::{calls, Refusal, Table, ROOM};
 
 /// The bytes of a record that is whole and right.
 #[derive(Clone, PartialEq, Eq, Hash)]
 pub struct Record(Box<[u8]>);
 
 impl Record {
-    /// The bytes as a record of this kind.
-    pub fn read(bytes: &[u8], kind: u8) -> Result<Record, Refusal> {
-        if calls::kind(bytes)? == kind {
+    /// The bytes as a record of one of these kinds.
+    pub fn read(bytes: &[u8], kinds: &[u8]) -> Result<Record, Refusal> {
+        if kinds.contains(&calls::kind(bytes)?) {
             Ok(Record(bytes.into()))
         } else {
             Err(Refusal::OtherKind)
@@ -35,13 +35,36 @@ impl Record {
         u32::from(self.0[1])
     }
 
+    /// Whether some row of the table is not cared for.
+    pub fn is_partial(&self) -> bool {
+        self.kind() >= 5
+    }
+
+    /// A bit for each row, after so many bytes of others.
+    fn bits(&self, after: usize) -> &[u8] {
+        &self.0[2 + after..][..(1usize << self.inputs()).div_ceil(8)]
+    }
+
+    /// The bytes of the table's values.
     pub fn table_bytes(&self) -> &[u8] {
-        &self.0[2..][..(1usize << self.inputs()).div_ceil(8)]
+        self.bits(0)
+    }
+
+    /// The bytes of the rows cared for, if not every row is.
+    pub fn care_bytes(&self) -> Option<&[u8]> {
+        self.is_partial().then(|| self.bits(self.table_bytes().len()))
     }
 
     /// The table's value on one of its rows.
     pub fn table_value(&self, row: u32) -> bool {
         self.table_bytes()[row as usize / 8] >> (row % 8) & 1 == 1
+    }
+
+    /// The table that the record is about.
+    pub fn table(&self) -> Table {
+        let kind = if self.is_partial() { 5 } else { 1 };
+        let head = [kind, self.0[1]];
+        answered(Table::from_record(&[&head, self.table_bytes(), self.care_bytes().unwrap_or_default()].concat()))
     }
 }
 
@@ -50,17 +73,17 @@ pub fn answered<T>(said: Result<T, Refusal>) -> T {
     said.unwrap_or_else(|refusal| panic!("a right record was {refusal}"))
 }
 
-/// What every type over a record of one kind has.
+/// What every type over a record has, which is of one of two kinds: with every row cared for, or not.
 macro_rules! over_record {
-    ($type:ident, $kind:literal) => {
+    ($type:ident, $full:literal, $partial:literal) => {
         impl $type {
-            /// Reads a record of this kind: any bytes may be given.
+            /// Reads such a record: any bytes may be given.
             ///
             /// # Errors
             ///
-            /// What reading gives, numbers 1 to 9, and [`Refusal::OtherKind`] for a record of another kind.
+            /// What reading gives, numbers 1 to 9 and 16, and [`Refusal::OtherKind`] for a record of another kind.
             pub fn from_record(bytes: &[u8]) -> Result<$type, Refusal> {
-                $crate::record::Record::read(bytes, $kind).map($type)
+                $crate::record::Record::read(bytes, &[$full, $partial]).map($type)
             }
 
             /// The record, to be stored and read back.
@@ -76,22 +99,3 @@ macro_rules! over_record {
     };
 }
 pub(crate) use over_record;
-
-/// What every type over a table and more has. Debug is the table and what Display says.
-macro_rules! with_table {
-    ($type:ident) => {
-        impl $type {
-            /// The table that this is about.
-            pub fn table(&self) -> $crate::Table {
-                $crate::record::answered($crate::Table::new(self.inputs(), self.0.table_bytes()))
-            }
-        }
-
-        impl std::fmt::Debug for $type {
-            fn fmt(&self, f: &mut std::fmt::Formatter) -> std::fmt::Result {
-                write!(f, "{}({}: {self})", stringify!($type), self.table().described())
-            }
-        }
-    };
-}
-pub(crate) use with_table;

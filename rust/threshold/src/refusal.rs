@@ -3,7 +3,7 @@
 use std::error::Error;
 use std::fmt;
 
-/// Why a call was refused, by the numbers of `include/threshold.h`: 1 to 14 are those of records and calls (docs/FORMAT.md), those from 100
+/// Why a call was refused, by the numbers of `include/threshold.h`: 1 to 16 are those of records and calls (docs/FORMAT.md), those from 100
 /// on are the interface's own.
 #[derive(Clone, Copy, Debug, PartialEq, Eq, Hash)]
 #[repr(u8)]
@@ -17,7 +17,7 @@ pub enum Refusal {
     SpareBit = 3,
     /// A number is not in shortest form, or has over three groups.
     Number = 4,
-    /// The kind byte is not 1 to 4.
+    /// The kind byte is not 1 to 6.
     Kind = 5,
     /// Bytes are left after the record.
     BytesLeft = 6,
@@ -36,6 +36,9 @@ pub enum Refusal {
     Room = 12,
     /// The row is at or above 2^n.
     Row = 14,
+    /// A row that is not cared for has a value bit, every row of a kind 5 or 6 is cared for, or a kind 2 or 3 is asked for with a row not
+    /// cared for.
+    Care = 16,
     /// The record is whole and right, of a kind that the call does not take.
     OtherKind = 100,
     /// There are not as many hex digits as a table of n inputs has.
@@ -46,14 +49,16 @@ pub enum Refusal {
     Words = 103,
     /// There is not a weight for each input of the table, or not a count for each of its rows.
     Numbers = 104,
+    /// The job has not come to the gate, or to the witness, that is asked for.
+    NotFound = 105,
 }
 
 impl Refusal {
-    const ALL: [Refusal; 18] = {
+    const ALL: [Refusal; 20] = {
         use Refusal::*;
         [
-            EndsEarly, Inputs, SpareBit, Number, Kind, BytesLeft, Gate, RowList, Unsound, Budget, Cap, Room, Row, OtherKind, Digits, Digit,
-            Words, Numbers,
+            EndsEarly, Inputs, SpareBit, Number, Kind, BytesLeft, Gate, RowList, Unsound, Budget, Cap, Room, Row, Care, OtherKind, Digits,
+            Digit, Words, Numbers, NotFound,
         ]
     };
 
@@ -74,7 +79,7 @@ impl Refusal {
             Refusal::Inputs => "more than eight inputs",
             Refusal::SpareBit => "a spare bit of the table is set",
             Refusal::Number => "a number is not in shortest form, or has over three groups",
-            Refusal::Kind => "the kind byte is not 1 to 4",
+            Refusal::Kind => "the kind byte is not 1 to 6",
             Refusal::BytesLeft => "bytes are left after the record",
             Refusal::Gate => "a weight or the threshold is beyond 1,000,000 either way",
             Refusal::RowList => "the counts are all 0, or one is above 1,000,000, or the row list breaks its rules",
@@ -83,11 +88,16 @@ impl Refusal {
             Refusal::Cap => "the budget passes the cap of 1,000,000 corrections",
             Refusal::Room => "the answer is longer than the room",
             Refusal::Row => "the row is past the table",
+            Refusal::Care => {
+                "a row that is not cared for has a value bit, every row of a kind 5 or 6 is cared for, \
+                 or a kind 2 or 3 is asked for with a row not cared for"
+            }
             Refusal::OtherKind => "a kind of record that the call does not take",
             Refusal::Digits => "not as many hex digits as the table has",
             Refusal::Digit => "a character is not a hex digit",
             Refusal::Words => "fewer words than the table has",
             Refusal::Numbers => "not a weight for each input, or not a count for each row",
+            Refusal::NotFound => "the job has not come to what is asked for",
         }
     }
 }

@@ -1,14 +1,15 @@
 //! Tables, and what is asked of one.
 
 use crate::record::{answered, over_record, Record};
-use crate::{calls, Outcome, Refusal, Verdict};
+use crate::{calls, Outcome, Refusal, Verdict, CALL_BUDGET};
 use std::fmt;
 use std::str::FromStr;
 
 /// A truth table of up to eight inputs. In row r, input i (1 to n) is true when bit i - 1 of r is 1.
 ///
 /// It is parsed from and shown as hex digits, the digit of the highest rows first, as ABC and kitty write them. What is shown of a table
-/// under two inputs does not say their number: it is one digit, which is parsed as a table of two inputs.
+/// under two inputs does not say their number: it is one digit, which is parsed as a table of two inputs. A row may be one that is not
+/// cared for; where there is one, digits of the rows cared for follow after `@`: `e0@f7`.
 ///
 /// ```
 /// use threshold::Table;
@@ -23,9 +24,9 @@ use std::str::FromStr;
 #[derive(Clone, PartialEq, Eq, Hash)]
 pub struct Table(pub(crate) Record);
 
-over_record!(Table, 1);
+over_record!(Table, 1, 5);
 
-/// What making an input true does to a table's value.
+/// What making an input true does to a table's value, where the row is cared for before and after.
 #[derive(Clone, Copy, Debug, PartialEq, Eq, Hash)]
 pub enum InputKind {
     /// It turns no row.
@@ -39,7 +40,7 @@ pub enum InputKind {
 }
 
 impl Table {
-    /// A table by its bytes: row r is bit r mod 8 of byte r div 8, and spare bits are 0.
+    /// A table by its bytes, with every row cared for: row r is bit r mod 8 of byte r div 8, and spare bits are 0.
     ///
     /// These bytes rise with the rows, where hex digits fall: the table of digits `f888` has the bytes 0x88, 0xf8.
     ///
@@ -91,34 +92,85 @@ impl Table {
         Record::written_by(|out| calls::from_words(inputs, words, out)).map(Table)
     }
 
+    /// A table by words of 64 rows as [`Table::from_words`] takes them, of which the rows are cared for that words laid out alike say. A
+    /// row that is not cared for has value false. With every row cared for it is the table of the first words.
+    ///
+    /// ```
+    /// use threshold::Table;
+    ///
+    /// let partial = Table::from_cares(3, &[0xe0], &[0xf7])?; // row 3 never occurs
+    /// assert_eq!(partial.to_string(), "e0@f7");
+    /// assert!(partial.check_gate(&[1, 1, 1], 2)?);
+    /// assert_eq!(Table::from_cares(3, &[0xe0], &[0xff])?, "e0".parse()?);
+    /// # Ok::<(), threshold::Refusal>(())
+    /// ```
+    ///
+    /// # Errors
+    ///
+    /// [`Refusal::Inputs`] above eight inputs, then [`Refusal::Words`] for too few words of either, [`Refusal::Care`] for a value bit on a
+    /// row that is not cared for.
+    pub fn from_cares(inputs: u32, words: &[u64], cares: &[u64]) -> Result<Table, Refusal> {
+        Record::written_by(|out| calls::from_cares(inputs, words, cares, out)).map(Table)
+    }
+
     /// A table by the value of each row, asked for from row 0 on.
     ///
     /// # Errors
     ///
     /// [`Refusal::Inputs`] above eight inputs.
     pub fn from_fn(inputs: u32, mut value: impl FnMut(u32) -> bool) -> Result<Table, Refusal> {
-        let mut words = [0; 4];
-        for row in 0..1 << at_most_eight(inputs)? {
-            words[row as usize / 64] |= u64::from(value(row)) << (row % 64);
-        }
-        Table::from_words(inputs, &words)
+        Table::from_partial_fn(inputs, |row| Some(value(row)))
     }
 
-    /// The bytes of the table, as [`Table::new`] takes them.
+    /// A table by the value of each row, asked for from row 0 on, or nothing where the row is not cared for.
+    ///
+    /// # Errors
+    ///
+    /// [`Refusal::Inputs`] above eight inputs.
+    pub fn from_partial_fn(inputs: u32, mut value: impl FnMut(u32) -> Option<bool>) -> Result<Table, Refusal> {
+        let (mut words, mut cares) = ([0; 4], [0; 4]);
+        for row in 0..1 << at_most_eight(inputs)? {
+            if let Some(value) = value(row) {
+                words[row as usize / 64] |= u64::from(value) << (row % 64);
+                cares[row as usize / 64] |= 1 << (row % 64);
+            }
+        }
+        Table::from_cares(inputs, &words, &cares)
+    }
+
+    /// The bytes of the values, as [`Table::new`] takes them.
     pub fn bytes(&self) -> &[u8] {
         self.0.table_bytes()
     }
 
-    /// The words of the table, as [`Table::from_words`] takes them; past its rows 0.
+    /// The words of the values, as [`Table::from_words`] takes them; past the rows 0.
     pub fn words(&self) -> [u64; 4] {
-        let mut words = [0; 4];
-        for (place, &byte) in self.bytes().iter().enumerate() {
-            words[place / 8] |= u64::from(byte) << (place % 8 * 8);
-        }
-        words
+        words_of(self.bytes())
     }
 
-    /// The value on a row.
+    /// Whether some row is not cared for.
+    pub fn is_partial(&self) -> bool {
+        self.0.is_partial()
+    }
+
+    /// The words of the rows cared for, as [`Table::from_cares`] takes them; past the rows 0.
+    pub fn cares(&self) -> [u64; 4] {
+        let rows = 1usize << self.inputs();
+        let every = |word: usize| u64::MAX.checked_shr(64 - (rows.saturating_sub(64 * word)).min(64) as u32).unwrap_or(0);
+        self.0.care_bytes().map_or_else(|| std::array::from_fn(every), words_of)
+    }
+
+    /// Whether a row is cared for.
+    ///
+    /// # Errors
+    ///
+    /// [`Refusal::Row`] for a row at or above 2^n.
+    pub fn cares_for(&self, row: u32) -> Result<bool, Refusal> {
+        self.value(row)?;
+        Ok(self.cares()[row as usize / 64] >> (row % 64) & 1 == 1)
+    }
+
+    /// The value on a row; false where it is not cared for.
     ///
     /// # Errors
     ///
@@ -134,7 +186,7 @@ impl Table {
         kinds.map(|kind| [InputKind::Idle, InputKind::Rising, InputKind::Falling, InputKind::Binate][usize::from(kind)])
     }
 
-    /// Chow's parameters q of the inputs, from input 1 on; past n 0.
+    /// Chow's parameters q of the inputs, from input 1 on, by the values; past n 0.
     pub fn chow(&self) -> [i16; 8] {
         let mut bytes = [0; 16];
         answered(calls::chow(self.record(), &mut bytes));
@@ -151,12 +203,33 @@ impl Table {
     /// # Ok::<(), threshold::Refusal>(())
     /// ```
     pub fn decide(&self) -> Outcome {
-        answered(Outcome::of(|out, made| calls::decide(self.record(), out, made)))
+        answered(Outcome::of(&self.0, CALL_BUDGET, |out, made| calls::decide(self.record(), out, made)))
     }
 
-    /// The verdict before a correction: the fresh job, to be carried on by budgets of one's own, or the witness if an input is binate.
+    /// The verdict before a correction: the fresh job, to be carried on by budgets of one's own; the witness if an input is binate; or a
+    /// gate of weights 0 if no row is cared for.
     pub fn fresh(&self) -> Verdict {
-        Verdict::of(answered(Record::written_by(|out| calls::fresh(self.record(), out))))
+        // A fresh job that has ended stays as it is under any budget.
+        answered(Outcome::of(&self.0, 1, |out, _| calls::fresh(self.record(), out))).verdict
+    }
+
+    /// Whether a gate, by a weight for each input and its threshold, agrees with the table on every row that is cared for.
+    ///
+    /// # Errors
+    ///
+    /// [`Refusal::Numbers`] if there is not a weight for each input, then [`Refusal::Gate`] if one or the threshold is beyond 1,000,000
+    /// either way.
+    pub fn check_gate(&self, weights: &[i32], threshold: i32) -> Result<bool, Refusal> {
+        calls::check_gate(self.record(), weights, threshold)
+    }
+
+    /// Whether a witness, by a count for each row, balances against the table.
+    ///
+    /// # Errors
+    ///
+    /// [`Refusal::Numbers`] if there is not a count for each row, then [`Refusal::RowList`] if all are 0 or one is above 1,000,000.
+    pub fn check_witness(&self, counts: &[u32]) -> Result<bool, Refusal> {
+        calls::check_witness(self.record(), counts)
     }
 
     /// The table and its number of inputs in words.
@@ -171,18 +244,43 @@ fn at_most_eight(inputs: u32) -> Result<u8, Refusal> {
     u8::try_from(inputs).ok().filter(|&inputs| inputs <= 8).ok_or(Refusal::Inputs)
 }
 
+/// Hex digits without their prefix, if they have one.
+fn without_prefix(text: &str) -> &str {
+    text.strip_prefix("0x").or_else(|| text.strip_prefix("0X")).unwrap_or(text)
+}
+
+/// The words of bytes, a bit for each row.
+fn words_of(bytes: &[u8]) -> [u64; 4] {
+    let mut words = [0; 4];
+    for (place, &byte) in bytes.iter().enumerate() {
+        words[place / 8] |= u64::from(byte) << (place % 8 * 8);
+    }
+    words
+}
+
+/// The hex digits of bytes, a bit for each of so many rows.
+fn digits_of(bytes: &[u8], rows: usize) -> String {
+    let digit = |place: usize| char::from(b"0123456789abcdef"[usize::from(bytes[place / 2] >> (place % 2 * 4) & 15)]);
+    (0..rows.div_ceil(4)).rev().map(digit).collect()
+}
+
 impl FromStr for Table {
     type Err = Refusal;
 
     /// A table by hex digits as [`Table::from_hex`] takes them, with or without `0x`. Their number gives the inputs: 1, 2, 4 .. 64 digits
-    /// are a table of 2, 3, 4 .. 8 inputs.
+    /// are a table of 2, 3, 4 .. 8 inputs. After `@` may follow as many digits, with or without `0x`, of the rows cared for.
     ///
     /// # Errors
     ///
     /// [`Refusal::Digits`] for another number of digits, or [`Refusal::Inputs`] if a table of more inputs would have it; then
-    /// [`Refusal::Digit`] for a character that is none.
+    /// [`Refusal::Digit`] for a character that is none; [`Refusal::Care`] for a value bit on a row that is not cared for.
     fn from_str(text: &str) -> Result<Table, Refusal> {
-        let digits = text.strip_prefix("0x").or_else(|| text.strip_prefix("0X")).unwrap_or(text);
+        if let Some((values, cares)) = text.split_once('@') {
+            let values: Table = values.parse()?;
+            let cares = Table::from_hex(values.inputs(), without_prefix(cares))?;
+            return Table::from_cares(values.inputs(), &values.words(), &cares.words());
+        }
+        let digits = without_prefix(text);
         if !digits.len().is_power_of_two() {
             return Err(Refusal::Digits);
         }
@@ -192,9 +290,12 @@ impl FromStr for Table {
 
 impl fmt::Display for Table {
     fn fmt(&self, f: &mut fmt::Formatter) -> fmt::Result {
-        let digit = |place: usize| char::from(b"0123456789abcdef"[usize::from(self.bytes()[place / 2] >> (place % 2 * 4) & 15)]);
-        let digits: String = (0..(1usize << self.inputs()).div_ceil(4)).rev().map(digit).collect();
-        f.pad(&digits)
+        let rows = 1 << self.inputs();
+        let values = digits_of(self.bytes(), rows);
+        match self.0.care_bytes() {
+            Some(cares) => f.pad(&format!("{values}@{}", digits_of(cares, rows))),
+            None => f.pad(&values),
+        }
     }
 }
 

@@ -1,5 +1,6 @@
 //! The wrapper on the cases of document 01, on papers' functions, and beside the header.
 
+mod cares;
 mod header;
 mod jobs;
 mod proposals;

@@ -1,17 +1,18 @@
 //! Witnesses.
 
-use crate::record::{answered, over_record, with_table, Record};
+use crate::claim::{over_claim, Claim};
+use crate::record::{answered, Record};
 use crate::{calls, Refusal, Table};
 use std::{fmt, iter, ops};
 
 /// A witness against a table, from anyone: a count for some of its rows. If it balances, the table has no gate.
 ///
-/// It is shown as its true rows and its false rows, `3 12 = 5 10`, a row with a count above 1 as `2*3`.
+/// It is shown as its true rows and its false rows, `3 12 = 5 10`, a row with a count above 1 as `2*3`; a row that is not cared for as a
+/// false one.
 #[derive(Clone, PartialEq, Eq, Hash)]
-pub struct Witness(pub(crate) Record);
+pub struct Witness(pub(crate) Claim<Box<[u32]>>);
 
-over_record!(Witness, 3);
-with_table!(Witness);
+over_claim!(Witness, 3);
 
 impl Witness {
     /// A witness that is proposed against a table: pairs of a row and its count, in any order.
@@ -36,25 +37,46 @@ impl Witness {
                 _ => return Err(Refusal::RowList),
             }
         }
-        Record::written_by(|out| calls::from_witness(table.record(), counts, out)).map(Witness)
+        if !table.is_partial() {
+            return Record::written_by(|out| calls::from_witness(table.record(), counts, out)).map(|record| Witness(Claim::Record(record)));
+        }
+        calls::check_witness(table.record(), counts)?;
+        Ok(Witness(Claim::Numbers(table.0.clone(), counts[..].into())))
+    }
+
+    /// The witness with which the job of a record, of a table with a row not cared for, ends within the budget, and the corrections made.
+    pub(crate) fn found(job: &Record, budget: u32) -> Result<(Witness, u32), Refusal> {
+        let (mut counts, mut made) = ([0; 256], 0);
+        let rows = calls::find_witness(job.bytes(), budget, &mut counts, &mut made)?;
+        Ok((Witness(Claim::Numbers(job.table().0, counts[..rows].into())), made))
     }
 
     /// The rows with a count, rising, each with its count.
     pub fn rows(&self) -> Rows {
         let mut counts = [0; 256];
-        let rows = answered(calls::witness(self.record(), &mut counts));
+        let rows = match &self.0 {
+            Claim::Record(record) => answered(calls::witness(record.bytes(), &mut counts)),
+            Claim::Numbers(_, numbers) => {
+                counts[..numbers.len()].copy_from_slice(numbers);
+                numbers.len()
+            }
+        };
         Rows { counts, left: 0..rows }
     }
 
-    /// Whether true rows and false rows have the same total and, for each input, so have those in which it is true.
+    /// Whether true rows and false rows have the same total and, for each input, so have those in which it is true; and no row has a count
+    /// that is not cared for.
     pub fn balances(&self) -> bool {
-        answered(calls::check(self.record()))
+        answered(match &self.0 {
+            Claim::Record(record) => calls::check(record.bytes()),
+            Claim::Numbers(table, counts) => calls::check_witness(table.bytes(), counts),
+        })
     }
 }
 
 impl fmt::Display for Witness {
     fn fmt(&self, f: &mut fmt::Formatter) -> fmt::Result {
-        let side = |value| self.rows().filter(move |&(row, _)| self.0.table_value(row) == value).map(Term);
+        let side = |value| self.rows().filter(move |&(row, _)| self.0.with_table().table_value(row) == value).map(Term);
         side(true).try_for_each(|term| write!(f, "{term} "))?;
         f.write_str("=")?;
         side(false).try_for_each(|term| write!(f, " {term}"))

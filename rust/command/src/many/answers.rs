@@ -2,6 +2,7 @@
 
 use super::counts::Class;
 use std::collections::HashMap;
+use std::hash::Hash;
 use std::sync::{Arc, Mutex, OnceLock};
 use threshold::Table;
 
@@ -19,50 +20,91 @@ pub struct Answer {
 /// A place for an answer. The first thread that asks for it decides; others that ask meanwhile wait for it.
 type Cell = Arc<OnceLock<Answer>>;
 
-/// A table's inputs and words.
-type Key = [u64; 5];
+/// A table's inputs and words, and those of its cares: a table with every row cared for has no need of these.
+type Full = [u64; 5];
+type Partial = [u64; 9];
 
 /// Some of the tables. It fills cache lines of its own, so that threads at two maps do not meet.
-#[derive(Default)]
 #[repr(align(128))]
-struct Shard(Mutex<HashMap<Key, Cell>>);
+struct Shard<K>(Mutex<HashMap<K, Cell>>);
 
-pub struct Answers(Vec<Shard>);
+/// The tables of one sort of key.
+struct Shards<K>(Vec<Shard<K>>);
+
+impl<K: Eq + Hash> Shards<K> {
+    fn new() -> Shards<K> {
+        Shards((0..SHARDS).map(|_| Shard(Mutex::default())).collect())
+    }
+
+    fn len(&self) -> u64 {
+        self.0.iter().map(|shard| shard.0.lock().expect("no thread fails").len() as u64).sum()
+    }
+}
+
+pub struct Answers {
+    full: Shards<Full>,
+    partial: Shards<Partial>,
+}
 
 impl Answers {
     pub fn new() -> Answers {
-        Answers((0..SHARDS).map(|_| Shard::default()).collect())
+        Answers { full: Shards::new(), partial: Shards::new() }
     }
 
     /// The number of tables.
     pub fn distinct(&self) -> u64 {
-        self.0.iter().map(|shard| shard.0.lock().expect("no thread fails").len() as u64).sum()
+        self.full.len() + self.partial.len()
     }
 }
 
 /// A thread's way to the answers. It keeps some of the tables that it met last: most lines of a long list are met again soon.
 pub struct Asker<'a> {
-    answers: &'a Answers,
-    recent: Vec<Option<(Key, Cell)>>,
+    full: Recent<'a, Full>,
+    partial: Recent<'a, Partial>,
 }
 
 impl Asker<'_> {
     pub fn new(answers: &Answers) -> Asker<'_> {
-        Asker { answers, recent: vec![None; RECENT] }
+        Asker { full: Recent::new(&answers.full, RECENT), partial: Recent::new(&answers.partial, 0) }
     }
 
     /// The answer to a table, which is decided if it is not known.
     pub fn ask(&mut self, table: &Table, decide: impl FnOnce() -> Answer) -> &Answer {
         let [a, b, c, d] = table.words();
-        let key = [table.inputs().into(), a, b, c, d];
+        let n = table.inputs().into();
+        if !table.is_partial() {
+            return self.full.cell([n, a, b, c, d]).get_or_init(decide);
+        }
+        let [e, f, g, h] = table.cares();
+        self.partial.cell([n, a, b, c, d, e, f, g, h]).get_or_init(decide)
+    }
+}
+
+/// Tables that a thread met last, of one sort of key: as many as it keeps, or none before the first.
+struct Recent<'a, K> {
+    shards: &'a Shards<K>,
+    slots: Vec<Option<(K, Cell)>>,
+}
+
+impl<'a, const WORDS: usize> Recent<'a, [u64; WORDS]>
+where
+    [u64; WORDS]: Eq + Hash,
+{
+    fn new(shards: &'a Shards<[u64; WORDS]>, slots: usize) -> Self {
+        Recent { shards, slots: vec![None; slots] }
+    }
+
+    fn cell(&mut self, key: [u64; WORDS]) -> &Cell {
+        if self.slots.is_empty() {
+            self.slots = vec![None; RECENT];
+        }
         let spread = key.iter().fold(0u64, |spread, word| (spread ^ word).wrapping_mul(0x9e37_79b9_7f4a_7c15).rotate_left(32)) as usize;
-        let slot = &mut self.recent[spread % RECENT];
+        let slot = &mut self.slots[spread % RECENT];
         if slot.as_ref().is_none_or(|(recent, _)| *recent != key) {
-            let mut shard = self.answers.0[spread / RECENT % SHARDS].0.lock().expect("no thread fails");
+            let mut shard = self.shards.0[spread / RECENT % SHARDS].0.lock().expect("no thread fails");
             *slot = Some((key, shard.entry(key).or_default().clone()));
         }
-        let (_, cell) = slot.as_ref().expect("it was set");
-        cell.get_or_init(decide)
+        &slot.as_ref().expect("it was set").1
     }
 }
 
@@ -85,6 +127,11 @@ mod tests {
             assert_eq!(asked(&table, text), text);
         }
         assert_eq!(answers.distinct(), 4);
+        for text in ["e8@fe", "e8@f8", "e8@e8", "00e8@00ff"] {
+            assert_eq!(asked(&text.parse().unwrap(), text), text);
+            assert_eq!(asked(&text.parse().unwrap(), "again"), text);
+        }
+        assert_eq!((asked(&e8, "third"), answers.distinct()), ("first".to_string(), 8));
     }
 
     #[test]

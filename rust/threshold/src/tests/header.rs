@@ -24,10 +24,17 @@ fn version_and_limits_are_the_headers() {
     assert_eq!(word_after("#define THRESHOLD_ROOM "), ROOM.to_string());
 }
 
+/// The text of a C string, whose parts may stand on lines of their own.
+fn joined(text: &str) -> String {
+    text.split("\"\n").map(|part| part.trim_start().trim_start_matches('"')).collect()
+}
+
 #[test]
 fn refusals_have_the_headers_numbers_and_texts() {
     let mut found = Vec::new();
-    for (name, text) in between(HEADER, "case -", "\";").map(|case| case.split_once(": return \"").expect("a text")) {
+    for case in between(HEADER, "case -", "\";") {
+        let (name, text) = case.split_once(':').expect("a text");
+        let text = joined(text.trim_start().strip_prefix("return \"").expect("a text"));
         let number = word_after(&format!(" {name} = ")).parse().expect("a small number");
         match Refusal::from_number(number) {
             Some(refusal) => assert_eq!(refusal.text(), text),
@@ -35,7 +42,7 @@ fn refusals_have_the_headers_numbers_and_texts() {
         }
         found.push(number);
     }
-    assert!(found.into_iter().eq((1..=15).chain(100..=104)));
+    assert!(found.into_iter().eq((1..=16).chain(100..=105)));
 }
 
 /// A parameter of a C function as Rust declares it.
@@ -72,6 +79,6 @@ fn functions(
 #[test]
 fn declarations_are_the_headers() {
     let header = functions(HEADER, "\nint64_t ", ");", parameter);
-    assert_eq!(header.len(), 15);
+    assert_eq!(header.len(), 20);
     assert_eq!(functions(DECLARED, "pub fn ", ") -> i64;", str::to_string), header);
 }

@@ -21,7 +21,7 @@ fn papers_gates_realise_their_tables() {
         let gate = Gate::new(&table, weights, threshold).unwrap();
         assert_eq!((&gate.weights()[..], gate.threshold(), gate.table()), (weights, threshold, table.clone()));
         assert!(gate.realises());
-        assert_eq!(Gate::from_record(gate.record()), Ok(gate));
+        assert_eq!(Gate::from_record(gate.record().unwrap()), Ok(gate));
         assert!(!Gate::new(&table, weights, threshold + 1).unwrap().realises());
         let Verdict::Gate(found) = table.decide().verdict else { panic!("{digits}: no gate") };
         assert_eq!(Gate::new(&table, &found.weights(), found.threshold()), Ok(found));
@@ -47,7 +47,7 @@ fn witnesses_balance_or_do_not() {
     let witness = Witness::new(&pairs, &rows).unwrap();
     assert!(witness.balances() && witness.rows().eq(rows));
     assert_eq!(witness.table(), pairs);
-    assert_eq!(Witness::from_record(witness.record()).as_ref(), Ok(&witness));
+    assert_eq!(Witness::from_record(witness.record().unwrap()).as_ref(), Ok(&witness));
     assert_eq!(Witness::new(&pairs, &[(12, 1), (5, 1), (10, 1), (3, 1)]), Ok(witness));
     assert!(Witness::new(&pairs, &[(3, 2), (12, 2), (5, 1), (6, 1), (9, 1), (10, 1)]).unwrap().balances());
     assert!(!Witness::new(&pairs, &[(3, 2), (5, 1), (10, 1), (12, 1)]).unwrap().balances());

@@ -6,7 +6,7 @@ use crate::{calls, Gate, Refusal, SavedJob, Table, Witness, ROOM};
 #[test]
 fn refusals_have_their_numbers() {
     let known = (0..=255).filter_map(Refusal::from_number).map(Refusal::number);
-    assert!(known.eq((1..=12).chain([14]).chain(100..=104)));
+    assert!(known.eq((1..=12).chain([14, 16]).chain(100..=105)));
     assert_eq!(Refusal::Budget.to_string(), "refused by 10: the budget is not within 1 to 100,000");
 }
 
@@ -26,6 +26,7 @@ fn a_refused_call_changes_no_byte() {
     let other_kind = |refused: Result<usize, Refusal>| assert_eq!(refused, Err(Refusal::OtherKind));
     room(calls::from_hex(2, b"8", &mut out[..2]));
     room(calls::from_words(2, &[8], &mut out[..2]));
+    room(calls::from_cares(2, &[8], &[12], &mut out[..3]));
     room(calls::decide(record, &mut out[..5], &mut made));
     room(calls::fresh(record, &mut out[..10]));
     room(calls::from_gate(record, &[1, 1], 2, &mut out[..5]));
@@ -39,6 +40,13 @@ fn a_refused_call_changes_no_byte() {
     assert_eq!(calls::from_gate(record, &[1], 2, &mut out), Err(Refusal::Numbers));
     assert_eq!(calls::from_witness(record, &[1; 5], &mut out), Err(Refusal::Numbers));
     assert_eq!(calls::from_witness(record, &[0; 4], &mut out), Err(Refusal::RowList));
+    let partial = [5, 2, 6, 7];
+    let care = |refused: Result<usize, Refusal>| assert_eq!(refused, Err(Refusal::Care));
+    care(calls::from_cares(2, &[8], &[7], &mut out));
+    care(calls::decide(&partial, &mut out, &mut made));
+    care(calls::fresh(&[5, 2, 0, 0], &mut out));
+    care(calls::from_gate(&partial, &[1, 1], 2, &mut out));
+    care(calls::from_witness(&partial, &[1; 4], &mut out));
     assert_eq!((out, made), ([7; ROOM], 7));
 }
 
@@ -46,13 +54,21 @@ fn a_refused_call_changes_no_byte() {
 fn a_refused_call_changes_no_number() {
     let gate = Gate::new(&table("8"), &[1, 1], 2).unwrap();
     let witness = Witness::new(&table("8"), &[(0, 1)]).unwrap();
-    let (mut weights, mut threshold, mut counts) = ([7; 8], 7, [7; 256]);
-    assert_eq!(calls::gate(gate.record(), &mut weights[..1], &mut threshold), Err(Refusal::Room));
-    assert_eq!(calls::gate(witness.record(), &mut weights, &mut threshold), Err(Refusal::OtherKind));
-    assert_eq!(calls::witness(witness.record(), &mut counts[..3]), Err(Refusal::Room));
-    assert_eq!(calls::witness(gate.record(), &mut counts), Err(Refusal::OtherKind));
-    assert_eq!((weights, threshold, counts), ([7; 8], 7, [7; 256]));
-    assert_eq!(calls::corrections(gate.record()), Err(Refusal::OtherKind));
+    let [gate, witness] = [gate.record().unwrap(), witness.record().unwrap()];
+    let (mut weights, mut threshold, mut counts, mut made) = ([7; 8], 7, [7; 256], 7);
+    assert_eq!(calls::gate(gate, &mut weights[..1], &mut threshold), Err(Refusal::Room));
+    assert_eq!(calls::gate(witness, &mut weights, &mut threshold), Err(Refusal::OtherKind));
+    assert_eq!(calls::witness(witness, &mut counts[..3]), Err(Refusal::Room));
+    assert_eq!(calls::witness(gate, &mut counts), Err(Refusal::OtherKind));
+    for (budget, room, refusal) in [(0, 8, Refusal::Budget), (17, 8, Refusal::NotFound), (18, 1, Refusal::Room)] {
+        assert_eq!(calls::find_gate(&[1, 2, 8], budget, &mut weights[..room], &mut threshold, &mut made), Err(refusal));
+    }
+    for (budget, room, refusal) in [(0, 256, Refusal::Budget), (1, 3, Refusal::Room)] {
+        assert_eq!(calls::find_witness(&[1, 2, 6], budget, &mut counts[..room], &mut made), Err(refusal));
+    }
+    assert_eq!(calls::find_witness(&[1, 2, 8], 18, &mut counts, &mut made), Err(Refusal::NotFound));
+    assert_eq!((weights, threshold, counts, made), ([7; 8], 7, [7; 256], 7));
+    assert_eq!(calls::corrections(gate), Err(Refusal::OtherKind));
 }
 
 #[test]
