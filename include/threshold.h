@@ -93,7 +93,8 @@ enum {
     THRESHOLD_REFUSED_DIGITS = 101,      /* not as many hex digits as a table of n inputs has */
     THRESHOLD_REFUSED_DIGIT = 102,       /* a character that is not a hex digit */
     THRESHOLD_REFUSED_WORDS = 103,       /* fewer words than a table of n inputs has */
-    THRESHOLD_REFUSED_NUMBERS = 104,     /* not a weight for each input of the table, or not a count for each of its rows */
+    THRESHOLD_REFUSED_NUMBERS = 104,     /* not a weight for each input of the table, or not a count for each of its rows; of the
+                                            wrapper in threshold.hpp also not a care bit for each row */
     THRESHOLD_REFUSED_NOT_FOUND = 105    /* a gate or a witness asked for, to which the job has not come */
 };
 
@@ -122,7 +123,7 @@ static inline const char *threshold_refusal_text(int64_t returned) {
     case -THRESHOLD_REFUSED_DIGITS: return "not as many hex digits as the table has";
     case -THRESHOLD_REFUSED_DIGIT: return "a character is not a hex digit";
     case -THRESHOLD_REFUSED_WORDS: return "fewer words than the table has";
-    case -THRESHOLD_REFUSED_NUMBERS: return "not a weight for each input, or not a count for each row";
+    case -THRESHOLD_REFUSED_NUMBERS: return "not a weight for each input, or not a count or a care bit for each row";
     case -THRESHOLD_REFUSED_NOT_FOUND: return "the job has not come to what is asked for";
     default: return "no refusal";
     }

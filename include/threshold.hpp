@@ -283,8 +283,8 @@ public:
         return from_words(static_cast<std::uint32_t>(inputs), words.first, detail::count_of(words));
     }
 
-    // The same, of which the rows are cared for that another such table, of as many inputs, says. Refusals: inputs (of the first), words
-    // (too few of either, or the other of another number of inputs), care.
+    // The same, of which the rows are cared for that another such table, of as many inputs, says. Refusals: inputs (of the first), numbers
+    // (the other of another number of inputs), words (too few of either), care.
     template <class TT, class Cares, detail::IfTable<TT> = 0, detail::IfTable<Cares> = 0>
     static Result<Table> of(const TT &table, const Cares &cares) noexcept {
         const auto words = detail::words_of(table, 0);
@@ -294,7 +294,7 @@ public:
             return Refusal::inputs;
         }
         if (inputs != static_cast<std::uint64_t>(cares.num_vars())) {
-            return Refusal::words;
+            return Refusal::numbers;
         }
         return from_cares(static_cast<std::uint32_t>(inputs), words.first, detail::count_of(words), cared.first, detail::count_of(cared));
     }

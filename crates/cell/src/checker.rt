@@ -1,5 +1,5 @@
 // The checker: it takes a table with a gate or a witness, from anyone, and says yes or no. The tests of their formats, with which it starts,
-// stand first: whoever takes a gate or a witness with its table starts with them too.
+// stand first.
 use crate::refusal::Answer;
 use crate::refusal::Status;
 use crate::refusal::as_answer;
@@ -16,7 +16,7 @@ ghost use Rattle.cell.specs.Answers.{answer, status};
 ghost use Rattle.cell.specs.Calls.{gateChecked, witnessChecked, checkGate, checkWitness};
 
 // Returns whether the table and the gate beside it keep their formats, or their refusal: 2, 3, 16, then 7.
-pub fn gate_status(table: Table, gate: Gate) -> Status
+fn gate_status(table: Table, gate: Gate) -> Status
     ensures { λ r. ⌜ r ≡ status (gateChecked table gate) ⌝ }
 {
     if gate.n != table.n {
@@ -33,7 +33,7 @@ pub fn gate_status(table: Table, gate: Gate) -> Status
 }
 
 // Returns whether the table and the witness beside it keep their formats, or their refusal: 2, 3, 16, then 8.
-pub fn witness_status(table: Table, witness: Witness) -> Status
+fn witness_status(table: Table, witness: Witness) -> Status
     ensures { λ r. ⌜ r ≡ status (witnessChecked table witness) ⌝ }
 {
     let status = table_status(table);

@@ -7,16 +7,18 @@ use mathlib.Core.List.{List, [], _∷_, _++_}
 use Prim.Native.Nat.{ℕ, zero, suc, _+_, _-_, _≤_, _<_}
 use native.Mathlib.Omega.{arith}
 use lib.Dec.{ltb}
-use lib.ListN.{length}
+use lib.ListN.{length, take, length-take}
+use native.Mathlib.Nat.{min-le-left}
 use borrow.Author.Tests.{le-ltb, ltb-true, ltb-false}
 use Rattle.types.specs.declared.table.Table.{Table}
 use Rattle.types.specs.declared.stage.Stage.{Stage}
 use Rattle.types.specs.declared.stage.Stage.the-variants.{Open, Found, Looped, Binate}
 use Rattle.numbers.proofs.TestLaws.{no-true}
 use Rattle.types.specs.declared.gate.Gate.{Gate}
+use Rattle.table.specs.Table.{rows}
 use Rattle.cell.specs.Refusal.{Rule, Answered, answered, refused, NoneBroken, also, andThen}
 use Rattle.cell.specs.Calls.{tableRules}
-use Rattle.cell.proofs.RefusalLaws.{answered-none-broken}
+use Rattle.cell.proofs.RefusalLaws.{answered-none-broken, rule-kept}
 use Rattle.cell.proofs.TableChecked.{kept-inputs, table-kept}
 use Rattle.job.specs.declared.job.Job.{Job}
 use Rattle.job.specs.Machine.{run, fresh, decided}
@@ -40,7 +42,7 @@ use Rattle.reporting.specs.Lines.{verdictText, recordLine, lastLine, tooLongLin
 use Rattle.reporting.specs.Report.{inputMost, noTally, counted, recordThen, reportFrom, report}
 use Rattle.job.proofs.DecidedLaws.{decided-table}
 use Rattle.theory.proofs.Answers.{EndedWithout, found-realises, found-accepted, ended-balances, ended-accepted, ended-excludes}
-use Rattle.outcome.specs.Outcome.{outcomeIn, outcome, uncarried, outcomeWritten, Handed, takenWith, takenAfter, handedBack}
+use Rattle.outcome.specs.Outcome.{outcomeIn, outcome, uncarried, outcomeWritten, Handed, withMade, takenWith, takenAfter, handedBack}
 use Rattle.arrays.specs.Arrays.{weightsOf, fittedGate, countsOf}
 use Rattle.findings.specs.Findings.{jobIn, jobFor, hasGate, hasWitness, notFound, gateFound, countsFound, findGate, findWitness}
 use Rattle.threshold.specs.Interface.{decide, carriedOn}
@@ -48,7 +50,7 @@ use Rattle.requests.specs.Taken.{tableRead, jobRead}
 use Rattle.requests.proofs.TakenLaws.{is-table, is-job}
 use Rattle.outcome.proofs.DecidedLaws.{decided-kept, carried-kept}
 use Rattle.claims.specs.Jobs.{Taken}
-use Rattle.claims.specs.Decided.{RightGate, RightWitness, RightFound, RightCounts, Begins, of-table, of-job, Right, gate, witness, given-up, outcomeText, outcomeLine, RightLine, RightLines, table, refusal, last, RightHanded, DecidedIsRight}
+use Rattle.claims.specs.Decided.{RightGate, RightWitness, RightFound, RightCounts, Begins, of-table, of-job, FoundOrOpen, gate-found, counts-found, still-open, Right, gate, witness, given-up, outcomeText, outcomeLine, RightLine, RightLines, table, refusal, last, RightHanded, DecidedIsRight}
 use Rattle.claims.proofs.CarryOn.{carried-on}
 use Rattle.claims.proofs.Rules.{rules-answered}
 
@@ -214,6 +216,45 @@ begins s (answered (ofWitness t w)) e j k = let z : _≡_ {A = ℕ} 0 1 = cc in 
 begins s (answered (ofJob i)) e j k = let same : i ≡ j = cc in subst (Begins s) same (of-job i e)
 begins s (refused n) e j k = let z : _≡_ {A = ℕ} 0 1 = cc in absurd (omega arith)
 
+-- and the call is given it
+begun : (s : List ℕ) {j : Job} → Begins s j → jobFor s ≡ answered j
+unfolding caseOf
+begun s (of-table t e) = ap (λ (r : Answered Record). jobIn (asRead r)) e
+begun s (of-job j e) = ap (λ (r : Answered Record). jobIn (asRead r)) e
+
+-- ---- one of the finds answers
+
+-- the first of some numbers go into an array of as many
+take-fits : {A : Type 0} (n : ℕ) (xs : List A) → ltb n (length (take n xs)) ≡ false
+take-fits n xs = le-ltb n (length (take n xs)) (omega (arith, length-take n xs, min-le-left n (length xs)))
+
+-- an ended job has its gate, or its counts
+gate-there : (m : Job) → m .state .stage ≡ Found → gateFound (m .table .n) m ≡ answered (gateOf m)
+gate-there m e = simp e (sym (rule-kept 12 [] (answered (gateOf m)) (take-fits (m .table .n) (gateOf m .weights))))
+
+counts-there : (m : Job) → EndedWithout m → countsFound (rows (m .table)) m ≡ answered (countsOf (m .table) (witnessOf m))
+counts-there m (inl e) = simp e (sym (rule-kept 12 [] (answered (countsOf (m .table) (witnessOf m))) (take-fits (rows (m .table)) (witnessOf m .counts))))
+counts-there m (inr e) = simp e (sym (rule-kept 12 [] (answered (countsOf (m .table) (witnessOf m))) (take-fits (rows (m .table)) (witnessOf m .counts))))
+
+-- a job that a record begins with, and the next, after a carry-on
+module _ (s : List ℕ) (j next : Job) (budget : ℕ) (from : Begins s j) (carries : carryOn j budget ≡ answered next) where
+  abbrev made : ℕ
+  made = next .state .k - j .state .k
+
+  -- what is there for a call is handed back
+  handed-there : {A : Type 0} (takes : Job → Answered A) (x : A) → takes next ≡ answered x
+      → andThen (jobFor s) (takenAfter budget takes) ≡ answered (record { value = x; made = made })
+  handed-there {A} takes x there =
+      ap (λ (a : Answered Job). andThen a (takenAfter budget takes)) (begun s from)
+      ∙ ap (λ (a : Answered Job). andThen a (takenWith takes j)) carries
+      ∙ ap (λ (a : Answered A). withMade made a) there
+
+  found-in : (x : Stage) → next .state .stage ≡ x → FoundOrOpen s budget next
+  found-in Open e = still-open e
+  found-in Found e = gate-found _ (handed-there (gateFound (next .table .n)) (gateOf next) (gate-there next e))
+  found-in Looped e = counts-found _ (handed-there (countsFound (rows (next .table))) (countsOf (next .table) (witnessOf next)) (counts-there next (inl e)))
+  found-in Binate e = counts-found _ (handed-there (countsFound (rows (next .table))) (countsOf (next .table) (witnessOf next)) (counts-there next (inr e)))
+
 module _ (s : List ℕ) (all : AllBytes s) where
   right-decide : (room : ℕ) (h : Handed (List ℕ)) → decide s room ≡ answered h
       → (t : Table) × (readRecord s ≡ answered (ofTable t)) × RightHanded t (fresh t) (decided t) h
@@ -261,4 +302,5 @@ module _ (s : List ℕ) (all : AllBytes s) where
     carries-on = right-carry-on;
     finds-gate = right-find-gate;
     finds-witness = right-find-witness;
+    found-or-open = λ j next budget from carries. found-in s j next budget from carries (next .state .stage) refl;
   }

@@ -6,7 +6,6 @@ use Prim.Native.Nat.{ℕ, _≤_}
 use borrow.Author.Tests.{ltb-false}
 use Rattle.table.specs.Table.{inputLimit, rowBytes}
 use Rattle.table.proofs.RowLaws.{ByteArray, rows-long, row-byte-lt, row-is}
-use Rattle.codec.proofs.TableFieldLaws.{Held}
 use Rattle.cell.specs.Refusal.{answered, NoneBroken, also}
 use Rattle.cell.specs.Calls.{tooManyInputs}
 use Rattle.records.specs.Record.{ofTable}

@@ -3,17 +3,15 @@
 use mathlib.Core.Path.{_≡_, refl, sym, _∙_, ap}
 use mathlib.Core.Bool.{Bool, true, false, not, _&&_, _||_}
 use mathlib.Core.Option.{Option, some, none}
-use Prim.Native.Nat.{ℕ, _^_, _<_}
+use Prim.Native.Nat.{ℕ, _<_}
 use native.Mathlib.Omega.{arith}
 use Rattle.numbers.specs.Tests.{firstFrom, isSome}
 use Rattle.numbers.proofs.TestLaws.{no-true, all-below-at}
 use Rattle.numbers.proofs.FirstLaws.{first-none, first-fails}
 use Rattle.types.specs.declared.table.Table.{Table}
 use Rattle.types.specs.declared.stage.Stage.the-variants.{Open, Found}
-use Rattle.function.specs.Failing.{failing}
 use Rattle.function.specs.Turns.{turnsAt, firstTurn}
 use Rattle.function.specs.Binate.{binateAt, binatePlace}
-use Rattle.function.specs.Vector.{zeroVector}
 use Rattle.function.specs.Witness.{zeros}
 use Rattle.table.specs.Table.{rows, value, cared, functionOf, strayValue}
 use Rattle.table.proofs.OnTables.{table-turns, zero-failing}

@@ -3,7 +3,6 @@
 use mathlib.Core.Path.{_≡_, refl, sym, _∙_, ap, subst}
 use mathlib.Core.List.{List, [], _∷_}
 use Prim.Native.Nat.{_≤_}
-use lib.ListN.{length}
 use Rattle.types.specs.declared.table.Table.{Table}
 use Rattle.cell.specs.Refusal.{answered}
 use Rattle.cell.specs.Calls.{tableRules}

@@ -16,6 +16,7 @@ use Rattle.cell.specs.Refusal.{answered, refused}
 use Rattle.cell.specs.Calls.{checkGate, checkWitness}
 use Rattle.job.specs.declared.job.Job.{Job}
 use Rattle.job.specs.Machine.{run, fresh, decided}
+use Rattle.job.specs.Calls.{carryOn}
 use Rattle.codec.specs.Field.{Field}
 use Rattle.codec.specs.TableField.{tableRecordAt}
 use Rattle.records.specs.Record.{Record, ofTable, ofGate, ofWitness, ofJob, recordBytes, readRecord}
@@ -30,7 +31,7 @@ use Rattle.outcome.specs.Outcome.{Handed}
 use Rattle.findings.specs.Findings.{findGate, findWitness}
 use Rattle.threshold.specs.Interface.{decide, carriedOn}
 use Rattle.claims.specs.Jobs.{Taken}
-use Rattle.table.specs.Table.{functionOf}
+use Rattle.table.specs.Table.{rows, functionOf}
 
 -- ---- a right outcome
 
@@ -102,11 +103,17 @@ pub data Begins (s : List ℕ) : Job → Type 0 where
   of-table : (t : Table) → readRecord s ≡ answered (ofTable t) → Begins s (fresh t)
   of-job : (j : Job) → readRecord s ≡ answered (ofJob j) → Begins s j
 
+-- one of the two finds by a budget answers, in an array of n weights or of a count for each row; or the job that it comes to is open
+pub data FoundOrOpen (s : List ℕ) (budget : ℕ) (next : Job) : Type 0 where
+  gate-found : (h : Handed Gate) → findGate s budget (next .table .n) ≡ answered h → FoundOrOpen s budget next
+  counts-found : (h : Handed (List ℕ)) → findWitness s budget (rows (next .table)) ≡ answered h → FoundOrOpen s budget next
+  still-open : next .state .stage ≡ Open → FoundOrOpen s budget next
+
 -- ---- the claim
 
 -- Of any bytes: every table that no rule refuses gets a right line, and a report of the bytes is such lines. What decide hands back of them
 -- is right for the table that they are, and what carry-on hands back is right for the table of the job that they are. So are the gate and the
--- counts that are found of either, whether every row is cared for or not
+-- counts that are found of either, whether every row is cared for or not; and they are found wherever a carry-on by the budget ends the job
 pub record DecidedIsRight (s : List ℕ) : Type 0 where
   pub line : (t : Table) → Taken t → (position : ℕ) → RightLine position t (recordLine position (decided t))
   pub lines : length s ≤ inputMost → RightLines s 0 noTally (report s)
@@ -117,3 +124,4 @@ pub record DecidedIsRight (s : List ℕ) : Type 0 where
       → (j : Job) × Begins s j × RightFound j (run budget j) Gate (RightGate (j .table)) h
   pub finds-witness : (budget room : ℕ) (h : Handed (List ℕ)) → findWitness s budget room ≡ answered h
       → (j : Job) × Begins s j × RightFound j (run budget j) (List ℕ) (RightCounts (j .table)) h
+  pub found-or-open : (j next : Job) (budget : ℕ) → Begins s j → carryOn j budget ≡ answered next → FoundOrOpen s budget next

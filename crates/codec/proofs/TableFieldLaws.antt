@@ -1,7 +1,7 @@
 -- Writing and reading a table are inverse: the bytes of a table that keeps its format are read as it, and bytes that are read as a table
 -- are its own. Assumes nothing.
 use mathlib.Core.Path.{_≡_, refl, sym, ap, ap₂, subst, _∙_}
-use mathlib.Core.Bool.{Bool, true, false, not, cond, _||_}
+use mathlib.Core.Bool.{Bool, true, false, not, cond}
 use mathlib.Core.List.{List, [], _∷_, _++_}
 use Prim.Native.Nat.{ℕ, _+_, _-_, _^_, _≤_, _<_}
 use native.Mathlib.Decide.{decLe}
@@ -19,7 +19,7 @@ use Rattle.table.proofs.RowLaws.{ByteArray, rows-clear}
 use Rattle.table.proofs.CareLaws.{every-array, whole-cares, cares-whole}
 use Rattle.cell.specs.Refusal.{rule, answered, checked, NoneBroken, none, also}
 use Rattle.cell.specs.Calls.{tooManyInputs, tableRules}
-use Rattle.cell.proofs.TableChecked.{kept-inputs, kept-values, kept-cares, kept-stray, whole-stray, table-keeps}
+use Rattle.cell.proofs.TableChecked.{kept-inputs, kept-values, kept-cares, kept-stray, whole-stray}
 use Rattle.codec.specs.Field.{Field, Reading, field, onward}
 use Rattle.codec.specs.Number.{numberBytes, numberAt}
 use Rattle.codec.specs.Kind.{Head, tablesAlone, kindAt}

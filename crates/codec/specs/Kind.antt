@@ -48,13 +48,13 @@ abbrev pub tablesAlone : List Head
 tablesAlone = head tables false ∷ head tables true ∷ []
 
 -- what a kind byte says, among those that a caller takes. 5: the byte is none of them
-unfoldable pub headIn : List Head → ℕ → Answered Head
-headIn [] kind = refused 5
-headIn (h ∷ hs) kind = cond (eqb kind (headKind h)) (answered h) (headIn hs kind)
+unfoldable pub headAmong : List Head → ℕ → Answered Head
+headAmong [] kind = refused 5
+headAmong (h ∷ hs) kind = cond (eqb kind (headKind h)) (answered h) (headAmong hs kind)
 
 -- a kind byte. 1: bytes end early; then 5
 abbrev pub kindAt : List Head → List ℕ → ℕ → Reading Head
-kindAt takes s at = checked (endsEarly s at 1 ∷ []) (andThen (headIn takes (getD s at 0)) (λ h. answered (field h (at + 1))))
+kindAt takes s at = checked (endsEarly s at 1 ∷ []) (andThen (headAmong takes (getD s at 0)) (λ h. answered (field h (at + 1))))
 
 -- a record from a position on, of the kinds that a caller takes: its kind byte, then what follows it, by what the byte says
 abbrev pub recordWith : {A : Type 0} → List Head → (Head → List ℕ → ℕ → Reading A) → List ℕ → ℕ → Reading A

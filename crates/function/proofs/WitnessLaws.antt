@@ -87,12 +87,12 @@ module _ (f : Function) (count : ℕ → ℕ) where
   pub counts-cared-correct : countsCared f count ≡ true ↔ ((r : ℕ) → r < rows f → f .cared r ≡ false → count r ≡ 0)
   unfolding countsCared
   counts-cared-correct = (
-    λ e r h. none-unless (f .cared r) (count r) .0 (all-below-at (rows f) spared e r h),
-    λ none. all-below-from (rows f) spared (λ r h. none-unless (f .cared r) (count r) .1 (none r h)),
+    λ e r h. none-unless (f .cared r) (count r) .0 (all-below-at (rows f) allowed e r h),
+    λ none. all-below-from (rows f) allowed (λ r h. none-unless (f .cared r) (count r) .1 (none r h)),
   )
     where
-      spared : ℕ → Bool
-      spared r = f .cared r || eqb (count r) 0
+      allowed : ℕ → Bool
+      allowed r = f .cared r || eqb (count r) 0
 
   -- the test that counts balance says so
   pub balances-correct : balances f count ≡ true ↔ Balances f count

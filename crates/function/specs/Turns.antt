@@ -7,7 +7,8 @@ use lib.Dec.{ltb}
 use Rattle.numbers.specs.Tests.{sameBool, firstFrom}
 use Rattle.function.specs.Function.{Function, levels, rows, raised}
 
--- row r has the place's input below its top level (a table's row lacks it), and raising it by one level turns the value to `to`
+-- row r has the place's input below its top level (a table's row lacks it), it and the row with the input one level higher are both cared for,
+-- and that raise turns the value to `to`
 unfoldable pub turnsAt : Function → Bool → ℕ → ℕ → Bool
 turnsAt f to place r =
     f .cared r

@@ -1,7 +1,7 @@
 -- The bytes of a table by its rows: a byte of a word; and the table that is made of such bytes, which keeps its format, so that the call that
 -- writes it refuses for its values on rows that are not cared for, and for its room alone. Assumes nothing.
 use mathlib.Core.Path.{_≡_, _∙_, ap, ap₂}
-use mathlib.Core.Bool.{Bool, false}
+use mathlib.Core.Bool.{Bool}
 use mathlib.Core.List.{List, [], _∷_}
 use Prim.Native.Nat.{ℕ, _+_, _-_, _*_, _/_, _%_, _^_, _≤_, _<_}
 use native.Mathlib.Omega.{arith}
@@ -13,12 +13,12 @@ use Rattle.numbers.specs.Packed.{bitIn}
 use Rattle.numbers.proofs.TestLaws.{or-neither}
 use Rattle.table.specs.Table.{inputLimit, rowBytes}
 use Rattle.table.proofs.RowLaws.{rows-clear}
-use Rattle.cell.specs.Refusal.{checked, NoneBroken, none, also}
-use Rattle.cell.specs.Calls.{tooManyInputs, spareBits, strayValues, tableRules}
+use Rattle.cell.specs.Refusal.{NoneBroken, none, also}
+use Rattle.cell.specs.Calls.{tooManyInputs, spareBits, tableRules}
 use Rattle.cell.proofs.RefusalLaws.{none-broken-answered}
 use Rattle.cell.proofs.TableChecked.{whole-keeps}
-use Rattle.records.specs.Record.{ofTable, recordBytes}
-use Rattle.writers.specs.Calls.{fitted, writeRecord}
+use Rattle.records.specs.Record.{ofTable}
+use Rattle.writers.specs.Calls.{writeRecord}
 use Rattle.imports.specs.Imports.{wordRow, tableWith, tableRecord, tableWithCares, caresRecord}
 
 -- ---- a byte of a word

@@ -3,7 +3,7 @@ use types::kind::Kind;
 ghost use mathlib.Core.Path.{_≡_};
 ghost use Rattle.cell.specs.Refusal.{refused};
 ghost use mathlib.Core.Bool.{true, false};
-ghost use Rattle.codec.specs.Kind.{everyKind, tablesAlone, headIn, kindAt};
+ghost use Rattle.codec.specs.Kind.{everyKind, tablesAlone, headAmong, kindAt};
 ghost use Rattle.reading.specs.Fields.{kindByte, takenBy, kindField};
 
 // The kinds that a caller takes: every kind, as a single record may have, or those of a table alone, as in a report.
@@ -40,7 +40,7 @@ fn partial(kind: Kind) -> KindByte
 
 // Returns what a kind byte says. Refusal: 5.
 fn any_kind(byte: u8) -> KindByte
-    ensures { λ r. ⌜ r ≡ kindByte (headIn everyKind byte) ⌝ }
+    ensures { λ r. ⌜ r ≡ kindByte (headAmong everyKind byte) ⌝ }
 {
     match byte {
         1 => plain(Kind::Table),
@@ -55,7 +55,7 @@ fn any_kind(byte: u8) -> KindByte
 
 // Returns what the kind byte of a table alone says. Refusal: 5.
 fn table_kind(byte: u8) -> KindByte
-    ensures { λ r. ⌜ r ≡ kindByte (headIn tablesAlone byte) ⌝ }
+    ensures { λ r. ⌜ r ≡ kindByte (headAmong tablesAlone byte) ⌝ }
 {
     match byte {
         1 => plain(Kind::Table),
@@ -66,7 +66,7 @@ fn table_kind(byte: u8) -> KindByte
 
 // Returns what a kind byte says among the kinds that a caller takes. Refusal: 5.
 fn taken_kind(takes: Takes, byte: u8) -> KindByte
-    ensures { λ r. ⌜ r ≡ kindByte (headIn (takenBy takes) byte) ⌝ }
+    ensures { λ r. ⌜ r ≡ kindByte (headAmong (takenBy takes) byte) ⌝ }
 {
     match takes {
         Takes::Every => any_kind(byte),

@@ -8,7 +8,7 @@ use lib.Dec.{ltb, eqb}
 use lib.ListN.{length, getD}
 use Rattle.cell.specs.Refusal.{Answered, rule, answered, refused, andThen, checked}
 use Rattle.codec.specs.Field.{Reading, field, onward}
-use Rattle.codec.specs.Kind.{Family, tables, Head, head, everyKind, tablesAlone, headIn, kindAt}
+use Rattle.codec.specs.Kind.{Family, tables, Head, head, everyKind, tablesAlone, headAmong, kindAt}
 use Rattle.codec.specs.TableField.{tableAt, tableRecordAt}
 use Rattle.reading.specs.Fields.{familyOf, kindField}
 use Rattle.reading.proofs.FieldFacts.{after-kind}
@@ -46,7 +46,7 @@ record-read s at =
 
 -- a record of a report is what the definition of records gives where tables alone are taken; no proof cites it, it joins the two definitions
 pub table-alone : (s : List ℕ) (at : ℕ) → recordAt tablesAlone s at ≡ onward (tableRecordAt s at) (λ t next. answered (field (ofTable t) next))
-unfolding headIn tableRecordAt restAt bodyAt recordAt
+unfolding headAmong tableRecordAt restAt bodyAt recordAt
 table-alone s at = by (ltb (length s) (at + 1)) (eqb (getD s at 0) 1) (eqb (getD s at 0) 5)
   where
     kind : (early whole partial : Bool) → Reading Head

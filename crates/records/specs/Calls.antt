@@ -9,7 +9,6 @@ use Rattle.job.specs.Machine.{startJob}
 use Rattle.job.specs.Calls.{noGate, noWitness}
 use Rattle.codec.specs.Field.{Reading}
 use Rattle.codec.specs.Kind.{Family}
-use Rattle.types.specs.declared.kind.Kind.{Kind}
 use Rattle.types.specs.declared.kind.Kind.the-variants as Kind′
 use Rattle.reading.specs.Fields.{familyOf, headOf, noTable}
 use Rattle.reading.specs.declared.kind.KindByte.{KindByte}

@@ -1,12 +1,12 @@
 -- Laws of the bits of rows in bytes that are made of others: `!` has the bits that they lack, `&` those that both have. Assumes nothing.
-use mathlib.Core.Path.{_≡_, sym, _∙_, ap, ap₂}
-use mathlib.Core.Bool.{Bool, not, _&&_}
+use mathlib.Core.Path.{_≡_, _∙_, ap, ap₂}
+use mathlib.Core.Bool.{not, _&&_}
 use mathlib.Core.List.{List}
 use Prim.Native.Nat.{ℕ, _-_, _*_, _/_, _%_, _^_, _≤_, _<_}
 use native.Mathlib.Omega.{arith}
 use lib.Bits.{bitAnd}
 use lib.ListN.{getD, drop, List·getD-append}
-use Rattle.numbers.specs.Packed.{packed, bitIn}
+use Rattle.numbers.specs.Packed.{bitIn}
 use Rattle.numbers.specs.Tabulate.{tabulate}
 use Rattle.numbers.proofs.PackedLaws.{packed-digits, packed-bit, packed-not, packed-and}
 use Rattle.numbers.proofs.TabulateLaws.{filled, length-tabulate, getD-tabulate}

@@ -144,9 +144,9 @@ fn keeps_rows(table: Table, counts: &[u32; 256]) -> bool
     requires { ⌜ (table .n ≤ 8) × (length (now counts) ≡ 256) ⌝ }
     ensures { λ r. ⌜ r ≡ (countsCared (functionOf table) (countOf (now (counts .entry))) && allAtMost 0 (drop (rows table) (now (counts .entry)))) ⌝ }
 {
-    let spared = counts_cared(table, counts);
+    let cared = counts_cared(table, counts);
     let inside = counts_within(counts, row_count(table.n), 0);
-    spared && inside
+    cared && inside
 }
 
 // Whether K is at most the cap, v and s are within ±K, and the counts of rows that are not cared for and of those past the table are 0.

@@ -7,12 +7,10 @@ use Prim.Native.Nat.{ℕ, _+_, _-_, _*_, _/_, _%_, _^_, _≤_, _<_}
 use native.Mathlib.Decide.{decLe}
 use native.Mathlib.Omega.{arith}
 use lib.Bits.{bitAnd}
-use lib.Dec.{eqb, ltb}
-use lib.ListN.{length, getD}
+use lib.ListN.{getD}
 use Rattle.numbers.specs.Packed.{packed, bitIn}
 use Rattle.numbers.proofs.PackedLaws.{packed-ext, packed-digits, packed-and, packed-not, packed-none, packed-zero}
-use Rattle.numbers.specs.Tests.{allBelow}
-use Rattle.numbers.proofs.TestLaws.{no-true, not-passed, all-below-at, all-below-from, all-below-fails}
+use Rattle.numbers.proofs.TestLaws.{not-passed, all-below-at, all-below-from}
 use Rattle.types.specs.declared.table.Table.{Table}
 use Rattle.table.specs.Table.{rowsOf, rows, byteCount, bitAt, value, cared, everyRow, wholeTable, isWhole, strayValue, spareSet}
 use Rattle.table.proofs.RowLaws.{ByteArray, byte-bit, rows-long, row-byte-lt, rows-clear, row-is, spare-none, same-bits}

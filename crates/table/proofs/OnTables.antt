@@ -2,34 +2,30 @@
 -- gate, witness"), when an input turns its value, when a row fails and what it corrects ("The stepping machine"). A level is 0, or 1 where the
 -- input is true. Assumes nothing.
 use mathlib.Core.Path.{_≡_, refl, sym, _∙_, ap}
-use mathlib.Core.Logic.{_↔_}
 use mathlib.Core.Bool.{Bool, true, false, not, cond, _&&_, _||_, and-true}
 use mathlib.Core.List.{List}
-use mathlib.Core.Option.{some}
-use Prim.Native.Nat.{ℕ, zero, suc, _+_, _*_, _^_, _≤_, _<_}
+use Prim.Native.Nat.{ℕ, zero, suc, _+_, _*_, _^_, _<_}
 use native.Mathlib.Nat.{mul-zero, mul-one}
 use native.Mathlib.Omega.{arith}
 use borrow.Author.Tests.{le-ltb, ne-eqb}
 use lib.Dec.{eqb, ltb}
 use lib.ListN.{length, getD}
 use lib.IntN.{ℤ, pos, negsuc, _+ℤ_, _*ℤ_, +ℤ-idr, zero-*ℤ}
-use lib.Pow.{pow-pos}
 use lib.Signed.{ltZ}
 use Rattle.numbers.specs.Sum.{sumBelow, weightedSum}
 use Rattle.numbers.specs.Tests.{sameBool, allBelow, firstFrom}
-use Rattle.numbers.proofs.TestLaws.{no-true, all-below-from}
 use Rattle.numbers.proofs.Ring.{*ℤ-idl}
 use Rattle.numbers.proofs.SumLaws.{sum-below-ext}
 use Rattle.numbers.proofs.FirstLaws.{first-cong}
 use Rattle.types.specs.declared.table.Table.{Table}
 use Rattle.types.specs.declared.vector.Vector.{Vector}
 use Rattle.function.specs.Function.{level}
-use Rattle.function.specs.Gate.{distance, gateTrue, Realises, realises}
-use Rattle.function.specs.Witness.{onlyIf, sideSum, Balances, countsCared}
+use Rattle.function.specs.Gate.{distance, gateTrue, realises}
+use Rattle.function.specs.Witness.{onlyIf, sideSum}
 use Rattle.function.specs.Turns.{turnsAt}
 use Rattle.function.specs.Failing.{margin, fails, failing}
 use Rattle.function.specs.Vector.{sign, correctedBy, zeroVector}
-use Rattle.function.proofs.FailingLaws.{above-below, failing-at}
+use Rattle.function.proofs.FailingLaws.{above-below}
 use Rattle.function.proofs.VectorLaws.{corrected-weights, getD-add-levels}
 use Rattle.function.proofs.WitnessLaws.{sideTerm, side-sum-terms}
 use Rattle.table.specs.Table.{rows, value, cared, functionOf}

@@ -17,7 +17,7 @@ use Rattle.numbers.proofs.PackedLaws.{packed-ext, packed-lt, packed-digits, pac
 use Rattle.numbers.specs.Tabulate.{tabulate}
 use Rattle.numbers.specs.Tests.{allAtMost}
 use Rattle.numbers.proofs.TabulateLaws.{filled, length-tabulate, getD-tabulate, tabulate-getD, getD-unfilled, length-filled}
-use Rattle.numbers.proofs.TestLaws.{no-true, all-at-most-at, all-at-most-from, or-false-left, or-false-right}
+use Rattle.numbers.proofs.TestLaws.{all-at-most-at, all-at-most-from, or-false-left, or-false-right}
 use Rattle.table.specs.Table.{rowsOf, byteCount, bitAt, spareSet, rowByte, rowBytes}
 use Rattle.table.proofs.TableLaws.{rows-le, bytes-le, byte-filled, spare-rest}
 

@@ -31,8 +31,8 @@ pub fn counts_within(counts: &[u32; 256], from: usize, limit: u32) -> bool
     true
 }
 
-// Whether a row is cared for, or has no count.
-fn is_spared(table: Table, row: usize, count: u32) -> bool
+// Whether a row may have this count: it is cared for, or the count is 0.
+fn may_count(table: Table, row: usize, count: u32) -> bool
     requires { ⌜ row < 256 ⌝ }
     ensures { λ r. ⌜ r ≡ (cared table row || eqb count 0) ⌝ }
 {
@@ -50,7 +50,7 @@ pub fn counts_cared(table: Table, counts: &[u32; 256]) -> bool
     let rows = row_count(table.n);
     let mut row: usize = 0;
     while row < rows {
-        if !is_spared(table, row, counts[row]) {
+        if !may_count(table, row, counts[row]) {
             return false;
         }
         row = row + 1;

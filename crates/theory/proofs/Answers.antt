@@ -16,7 +16,7 @@ use Rattle.numbers.specs.Tests.{allAtMost}
 use Rattle.numbers.proofs.Int.{integers, parts-add, parts-neg}
 use Rattle.numbers.proofs.TestLaws.{not-passed, or-neither, all-at-most-at, all-at-most-from}
 use Rattle.types.specs.declared.table.Table.{Table}
-use Rattle.cell.specs.Refusal.{Rule, answered, NoneBroken, none, also}
+use Rattle.cell.specs.Refusal.{answered, NoneBroken, none, also}
 use Rattle.cell.specs.Calls.{tableRules, checkGateRules, checkGate, checkWitnessRules, checkWitness}
 use Rattle.cell.proofs.RefusalLaws.{none-broken-answered}
 use Rattle.types.specs.declared.vector.Vector.{Vector}

@@ -24,8 +24,7 @@ use Rattle.codec.specs.Field.{Field, field}
 use Rattle.codec.specs.Number.{numberBytes, numberAt}
 use Rattle.codec.specs.VectorField.{vectorBytes, vectorAt}
 use Rattle.codec.specs.RowList.{RowList, rowListBytes, rowListAt}
-use Rattle.codec.specs.Kind as kinds
-use Rattle.codec.specs.Kind.{Family, tables, gates, witnesses, jobs, Head, head, headKind, everyKind, kindAt}
+use Rattle.codec.specs.Kind.{Family, tables, gates, witnesses, jobs, Head, head, headKind, everyKind, headAmong, kindAt}
 use Rattle.codec.specs.TableField.{tableBytes, tableAt}
 use Rattle.codec.proofs.FieldLaws.{onward-answered, and-then-answered, checked-onward, checked-answered}
 use Rattle.codec.proofs.StandsLaws.{Stands, stands-nil, both-stand, stands-whole, AllBytes}
@@ -174,12 +173,12 @@ Each P [] = Unit {0}
 Each P (h ∷ hs) = P h × Each P hs
 
 -- so one that a byte is read as does
-each-read : (P : Head → Type 0) (takes : List Head) (kind : ℕ) (h : Head) → Each P takes → kinds.headIn takes kind ≡ answered h → P h
-unfolding kinds.headIn Each
+each-read : (P : Head → Type 0) (takes : List Head) (kind : ℕ) (h : Head) → Each P takes → headAmong takes kind ≡ answered h → P h
+unfolding headAmong Each
 each-read P [] kind h all e = let z : _≡_ {A = ℕ} 0 1 = cc in absurd (omega arith)
 each-read P (g ∷ gs) kind h (first, all) e = by (eqb kind (headKind g)) e (each-read P gs kind h all)
   where
-    by : (b : Bool) → cond b (answered g) (kinds.headIn gs kind) ≡ answered h → (kinds.headIn gs kind ≡ answered h → P h) → P h
+    by : (b : Bool) → cond b (answered g) (headAmong gs kind) ≡ answered h → (headAmong gs kind ≡ answered h → P h) → P h
     by true q later = let same : g ≡ h = cc in subst P same first
     by false q later = later q
 
@@ -199,7 +198,7 @@ every-plain = (without tables, (without gates, (without witnesses, (without jobs
 
 kind-plain : (s : List ℕ) (at : ℕ) (f : Field Head) → kindAt everyKind s at ≡ answered f → Plain (f .value)
 kind-plain s at f e =
-    let said = kinds.headIn everyKind (getD s at 0) in
+    let said = headAmong everyKind (getD s at 0) in
     let (inside, after) = checked-onward 1 (ltb (length s) (at + 1)) (andThen said (λ g. answered (field g (at + 1)))) f e in
     let (h, is, same) = and-then-answered said (λ g. answered (field g (at + 1))) f after in
     let read : field h (at + 1) ≡ f = cc in

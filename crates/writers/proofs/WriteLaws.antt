@@ -5,7 +5,6 @@ use mathlib.Core.Bool.{Bool, true, false, not, cond}
 use mathlib.Core.List.{List, [], _∷_, _++_}
 use Prim.Native.Nat.{ℕ, _+_, _≤_, _<_}
 use native.Mathlib.Omega.{arith}
-use lib.Dec.{ltb}
 use lib.ListN.{length}
 use borrow.Author.Tests.{lt-ltb, le-ltb}
 use Rattle.types.specs.declared.table.Table.{Table}
@@ -15,7 +14,7 @@ use Rattle.table.specs.Table.{isWhole}
 use Rattle.cell.specs.Answers.{status}
 use Rattle.cell.specs.declared.refusal.Status.{Status}
 use Rattle.cell.specs.declared.refusal.Status.the-variants as Status′
-use Rattle.cell.specs.Refusal.{Rule, Answered, answered, refused, refuseIf, checked}
+use Rattle.cell.specs.Refusal.{Rule, Answered, answered, refused, checked}
 use Rattle.cell.proofs.RefusalLaws.{rule-broken, rule-kept}
 use Rattle.cell.proofs.StatusLaws.{rules-refused, rules-kept, rules-passed}
 use Rattle.codec.specs.Kind.{headKind}
@@ -110,11 +109,3 @@ wrote-as old same {r} {new} p = subst (λ (x : Answered (List ℕ)). WroteBytes 
 pub written-refused : (a : Answered (List ℕ)) {n : ℕ} → written a ≡ Written′.Refused n → refused n ≡ a
 written-refused (answered bytes) e = let z : _≡_ {A = ℕ} 0 1 = cc in absurd (omega arith)
 written-refused (refused m) e = cc
-
--- a length that is written is that of the bytes
-pub fitted-length : (room : ℕ) (bytes : List ℕ) {n : ℕ} → written (fitted room bytes) ≡ Written′.Bytes n → n ≡ length bytes
-fitted-length room bytes {n} = by (ltb room (length bytes))
-  where
-    by : (b : Bool) → written (refuseIf b 12 (answered bytes)) ≡ Written′.Bytes n → n ≡ length bytes
-    by true e = let z : _≡_ {A = ℕ} 0 1 = cc in absurd (omega arith)
-    by false e = cc

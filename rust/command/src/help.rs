@@ -15,11 +15,12 @@ threshold - whether one threshold gate can carry a Boolean function
 Without a FILE, or where it is -, many, pack and list read standard input. Try
   threshold e8 0x8000 -e 'x1 x2 + !x3'
 
-A verdict is a gate, which can be tried on every row; or a witness, after which
-no weights of any size exist; or 'given up so far', which can be carried on.
-In row r of a table, input xi is true when bit i - 1 of r is 1. A gate is true
-in a row when the weights of the row's true inputs add up to T or more. A row
-that never occurs need not be cared for: the verdict is then on the others.
+A verdict is a gate, which can be tried on every row cared for; or a witness,
+after which no weights of any size exist; or 'given up so far', which can be
+carried on. In row r of a table, input xi is true when bit i - 1 of r is 1. A
+gate is true in a row when the weights of the row's true inputs add up to T or
+more. A row that never occurs need not be cared for: the verdict is then on the
+others.
 
 TABLE, of up to 8 inputs
   e8  0x8000     hex digits, the highest rows first, as ABC and kitty write:

@@ -47,7 +47,7 @@ pub enum Refusal {
     Digit = 102,
     /// There are fewer words than a table of n inputs has.
     Words = 103,
-    /// There is not a weight for each input of the table, or not a count for each of its rows.
+    /// There is not a weight for each input of the table, or not a count for each of its rows. (In C++ it is also for a care bit.)
     Numbers = 104,
     /// The job has not come to the gate, or to the witness, that is asked for.
     NotFound = 105,
@@ -96,7 +96,7 @@ impl Refusal {
             Refusal::Digits => "not as many hex digits as the table has",
             Refusal::Digit => "a character is not a hex digit",
             Refusal::Words => "fewer words than the table has",
-            Refusal::Numbers => "not a weight for each input, or not a count for each row",
+            Refusal::Numbers => "not a weight for each input, or not a count or a care bit for each row",
             Refusal::NotFound => "the job has not come to what is asked for",
         }
     }

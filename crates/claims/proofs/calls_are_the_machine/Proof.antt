@@ -1,6 +1,5 @@
 -- `claims::calls_are_the_machine`: the law of lists, where the table's bytes have the length of the code's type. Assumes nothing.
-use mathlib.Core.Path.{_≡_}
-use lib.ListN.{length, getD}
+use lib.ListN.{getD}
 use mir.Syntax.{w8}
 use mir.Val.{Fits}
 use Rattle.codec.proofs.TableFieldLaws.{Held}

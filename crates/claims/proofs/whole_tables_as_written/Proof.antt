@@ -1,7 +1,7 @@
 -- `claims::whole_tables_as_written`: the laws of the definitions over a function, at a table with every row cared for. Assumes nothing.
 use mathlib.Core.Path.{_≡_, sym, _∙_, ap}
 use mathlib.Core.Bool.{Bool, true, _&&_}
-use Prim.Native.Nat.{ℕ, _+_, _^_}
+use Prim.Native.Nat.{_+_, _^_}
 use native.Mathlib.Omega.{arith}
 use lib.Pow.{pow-pos}
 use Rattle.numbers.proofs.TestLaws.{no-true}

@@ -1,5 +1,5 @@
 -- `cell::refusal::spare_bits` meets its contract: the values decide where a bit of them is spare, and else the care bits. Assumes nothing.
-use mathlib.Core.Path.{_≡_, sym, _∙_, ap}
+use mathlib.Core.Path.{sym, _∙_, ap}
 use mathlib.Core.Bool.{Bool, _||_}
 use borrow.Author.Needs.{needs}
 use Rattle.table.specs.Table.{spareSet}

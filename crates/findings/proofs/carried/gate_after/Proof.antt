@@ -1,14 +1,13 @@
 -- `carried::gate_after` meets its contract: the job after the carry-on keeps its rules, and the numbers of its gate are put into what is lent.
 -- Assumes nothing.
 use mathlib.Core.Path.{_≡_, refl, sym, _∙_, ap}
-use mathlib.Core.Bool.{Bool, not}
+use mathlib.Core.Bool.{not}
 use mathlib.Core.List.{List, []}
 use Prim.Native.Nat.{ℕ}
 use native.Mathlib.Omega.{arith}
 use lib.Dec.{ltb}
 use lib.ListN.{length}
-use lib.IntN.{ℤ, pos}
-use lib.Signed.{leZ}
+use lib.IntN.{ℤ}
 use mir.Syntax.{w64}
 use mir.Val.{toZ, ofZ}
 use borrow.Author.Needs.{needs}
@@ -25,7 +24,7 @@ use Rattle.arrays.specs.Arrays.{weightsOf, fittedGate, GatePut}
 use Rattle.arrays.proofs.PutLaws.{put-as}
 use Rattle.outcome.specs.Outcome.{takenWith, takenAfter, withMade}
 use Rattle.outcome.proofs.DecidedLaws.{carried-refused, carried-done, carried-handed, carried-kept}
-use Rattle.findings.specs.Findings.{hasGate, gateFound}
+use Rattle.findings.specs.Findings.{gateFound}
 use Rattle.findings.proofs.FindingLaws.{gate-as, gate-refused, gate-with, sign-answered, sign-refused}
 use Rattle.findings.proofs.carried.gate_after.Statement.{statement}
 use Rattle.findings.proofs.carried.gate_after.Tie as tie

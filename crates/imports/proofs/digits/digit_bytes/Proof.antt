@@ -1,12 +1,12 @@
 -- `digits::digit_bytes` meets its contract. The loop's invariant: the bytes of the rows below `at` are stored into zeros. The measure is what is left of
 -- the table's bytes. Assumes nothing.
-use mathlib.Core.Path.{_≡_, _∙_, ap}
+use mathlib.Core.Path.{_≡_, _∙_}
 use Prim.Native.Nat.{_-_, _*_, _≤_, _<_}
 use native.Mathlib.Omega.{arith}
 use lib.ListN.{replicate}
 use borrow.Author.Needs.{needs}
 use Rattle.numbers.proofs.TabulateLaws.{filled, filled-none, filled-more}
-use Rattle.table.specs.Table.{rowsOf, byteCount, rowByte}
+use Rattle.table.specs.Table.{rowsOf, rowByte}
 use Rattle.table.proofs.TableLaws.{bytes-le}
 use Rattle.table.proofs.RowLaws.{rows-made}
 use Rattle.imports.specs.Imports.{digitRow}

@@ -1,13 +1,12 @@
 -- `made::kept_bits` meets its contract: with three inputs and more all bits are rows; with fewer, the rest by a power of two has those of
 -- the rows. Assumes nothing.
-use mathlib.Core.Path.{_≡_, sym, _∙_, ap}
-use Prim.Native.Nat.{ℕ, _%_, _*_, _^_, _≤_, _<_}
+use mathlib.Core.Path.{_≡_, _∙_, ap}
+use Prim.Native.Nat.{ℕ, _%_, _*_, _^_, _≤_}
 use native.Mathlib.Omega.{arith}
 use lib.Pow.{pow-pos, pow-mono, shl-exact}
 use mir.Syntax.{w8}
 use mir.Val.{Fits}
 use borrow.Author.Needs.{needs}
-use Rattle.table.specs.Table.{rowsOf}
 use Rattle.table.proofs.RowLaws.{all-kept, some-kept}
 use Rattle.imports.proofs.made.kept_bits.Statement.{statement}
 use Rattle.imports.proofs.made.kept_bits.Tie as tie

@@ -1,39 +1,38 @@
 -- `reading::kind::any_kind` meets its contract: a byte is that of one kind, or of none. Assumes nothing.
 use mathlib.Core.Path.{_≡_, _∙_}
-use Prim.Native.Nat.{ℕ}
 use native.Mathlib.Omega.{arith}
 use borrow.Author.Needs.{needs}
 use borrow.Author.Tests.{ne-eqb}
-use Rattle.codec.specs.Kind.{headIn}
+use Rattle.codec.specs.Kind.{headAmong}
 use Rattle.reading.proofs.kind.any_kind.Statement.{statement}
 use Rattle.reading.proofs.kind.any_kind.Tie as tie
 
 returns : tie.Need-returns
-unfolding headIn
+unfolding headAmong
 returns c = let e : c .before .before .args .byte ≡ 1 = omega arith in c .plain .ensures ∙ rw e
 
 returns-2 : tie.Need-returns-2
-unfolding headIn
+unfolding headAmong
 returns-2 c = let e : c .before .before .args .byte ≡ 2 = omega arith in c .plain2 .ensures ∙ rw e
 
 returns-3 : tie.Need-returns-3
-unfolding headIn
+unfolding headAmong
 returns-3 c = let e : c .before .before .args .byte ≡ 3 = omega arith in c .plain3 .ensures ∙ rw e
 
 returns-4 : tie.Need-returns-4
-unfolding headIn
+unfolding headAmong
 returns-4 c = let e : c .before .before .args .byte ≡ 4 = omega arith in c .plain4 .ensures ∙ rw e
 
 returns-5 : tie.Need-returns-5
-unfolding headIn
+unfolding headAmong
 returns-5 c = let e : c .before .before .args .byte ≡ 5 = omega arith in c .partial .ensures ∙ rw e
 
 returns-6 : tie.Need-returns-6
-unfolding headIn
+unfolding headAmong
 returns-6 c = let e : c .before .before .args .byte ≡ 6 = omega arith in c .partial2 .ensures ∙ rw e
 
 returns-7 : tie.Need-returns-7
-unfolding headIn
+unfolding headAmong
 returns-7 c =
     let byte = c .before .before .args .byte in
     c .plain5 .ensures

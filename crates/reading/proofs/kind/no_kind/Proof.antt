@@ -1,8 +1,7 @@
 -- `reading::kind::no_kind` meets its contract. Assumes nothing.
-use mathlib.Core.Path.{_≡_, ap}
+use mathlib.Core.Path.{ap}
 use borrow.Author.Needs.{needs}
 use Rattle.reading.specs.declared.kind.KindByte.{KindByte}
-use Rattle.reading.specs.declared.kind.KindField.{KindField}
 use Rattle.reading.proofs.kind.no_kind.Statement.{statement}
 use Rattle.reading.proofs.kind.no_kind.Tie as tie
 

@@ -8,8 +8,8 @@ use borrow.Author.Needs.{needs}
 use borrow.Author.Tests.{lt-ltb, le-ltb}
 use Rattle.cell.specs.Refusal.{Answered, answered, refused, andThen}
 use Rattle.codec.specs.Field.{field}
-use Rattle.codec.specs.Kind.{Head, headIn, kindAt}
-use Rattle.reading.specs.Fields.{kindByte, headOf, takenBy, kindField}
+use Rattle.codec.specs.Kind.{Head, headAmong, kindAt}
+use Rattle.reading.specs.Fields.{kindByte, takenBy, kindField}
 use Rattle.reading.proofs.FieldFacts.{head-is, head-refused, head-whole}
 use Rattle.reading.proofs.kind.read_kind.Statement.{statement}
 use Rattle.reading.proofs.kind.read_kind.Tie as tie
@@ -18,7 +18,7 @@ module _ (takes : List Head) (s : List ℕ) (at : ℕ) where
   kind-none : length s ≤ at → refused 1 ≡ kindAt takes s at
   kind-none h = rw (lt-ltb (length s) (at + 1) (omega arith))
 
-  kind-some : at < length s → (r : Answered Head) → headIn takes (getD s at 0) ≡ r → andThen r (λ f. answered (field f (at + 1))) ≡ kindAt takes s at
+  kind-some : at < length s → (r : Answered Head) → headAmong takes (getD s at 0) ≡ r → andThen r (λ f. answered (field f (at + 1))) ≡ kindAt takes s at
   kind-some h r e = rw (le-ltb (length s) (at + 1) (omega arith), e)
 
 returns : tie.Need-returns
@@ -31,7 +31,7 @@ module _ (c : tie.After-taken-kind) where
   start = c .before .before .before .before
 
   abbrev found : Answered Head
-  found = let a = start .args in headIn (takenBy (a .takes)) (getD (a .bytes .now) (a .at) 0)
+  found = let a = start .args in headAmong (takenBy (a .takes)) (getD (a .bytes .now) (a .at) 0)
 
   read : (r : Answered Head) → found ≡ r → let a = start .args in andThen r (λ f. answered (field f (a .at + 1))) ≡ kindAt (takenBy (a .takes)) (a .bytes .now) (a .at)
   read r e = let a = start .args in kind-some (takenBy (a .takes)) (a .bytes .now) (a .at) (c .before .before .if1 .left) r e

@@ -1,23 +1,22 @@
 -- `reading::kind::table_kind` meets its contract: a byte is that of a kind of a table alone, or of none. Assumes nothing.
 use mathlib.Core.Path.{_≡_, _∙_}
-use Prim.Native.Nat.{ℕ}
 use native.Mathlib.Omega.{arith}
 use borrow.Author.Needs.{needs}
 use borrow.Author.Tests.{ne-eqb}
-use Rattle.codec.specs.Kind.{headIn}
+use Rattle.codec.specs.Kind.{headAmong}
 use Rattle.reading.proofs.kind.table_kind.Statement.{statement}
 use Rattle.reading.proofs.kind.table_kind.Tie as tie
 
 returns : tie.Need-returns
-unfolding headIn
+unfolding headAmong
 returns c = let e : c .before .before .args .byte ≡ 1 = omega arith in c .plain .ensures ∙ rw e
 
 returns-2 : tie.Need-returns-2
-unfolding headIn
+unfolding headAmong
 returns-2 c = let e : c .before .before .args .byte ≡ 5 = omega arith in c .partial .ensures ∙ rw e
 
 returns-3 : tie.Need-returns-3
-unfolding headIn
+unfolding headAmong
 returns-3 c =
     let byte = c .before .before .args .byte in
     c .plain2 .ensures

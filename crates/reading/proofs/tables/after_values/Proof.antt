@@ -1,5 +1,5 @@
 -- `reading::tables::after_values` meets its contract: care bits follow, or every row is cared for. Assumes nothing.
-use mathlib.Core.Path.{_≡_, sym, _∙_, ap}
+use mathlib.Core.Path.{sym, _∙_, ap}
 use mathlib.Core.Bool.{Bool}
 use borrow.Author.Needs.{needs}
 use Rattle.cell.specs.declared.refusal.Status.the-variants as Status′

@@ -8,7 +8,7 @@ use Rattle.cell.specs.Refusal.{answered}
 use Rattle.codec.specs.Field.{Reading, field}
 use Rattle.codec.specs.TableField.{rowBitsAt}
 use Rattle.codec.proofs.TableFieldLaws.{row-bits-clear}
-use Rattle.reading.specs.Fields.{bitsField, tableField}
+use Rattle.reading.specs.Fields.{tableField}
 use Rattle.reading.specs.declared.tables.BitsField.{BitsField}
 use Rattle.reading.proofs.FieldFacts.{bits-refused, bits-done}
 use Rattle.reading.proofs.TableLaws.{cares-refused, cares-stray, cares-every, cares-kept}

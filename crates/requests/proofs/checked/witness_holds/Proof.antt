@@ -1,5 +1,5 @@
 -- `checked::witness_holds` meets its contract: what was read is a table, and the counts are checked against it. Assumes nothing.
-use mathlib.Core.Path.{_≡_, _∙_, ap}
+use mathlib.Core.Path.{_∙_, ap}
 use Prim.Native.Nat.{ℕ}
 use native.Mathlib.Omega.{arith}
 use mir.Syntax.{w64}

@@ -5,7 +5,6 @@ use lib.ListN.{length}
 use mir.Syntax.{w64}
 use borrow.Author.Needs.{needs}
 use Rattle.numbers.proofs.Int.{back}
-use Rattle.types.specs.declared.table.Table.{Table}
 use Rattle.cell.specs.Refusal.{Answered}
 use Rattle.codec.specs.Kind.{witnesses}
 use Rattle.records.specs.declared.read.Read.{Read}

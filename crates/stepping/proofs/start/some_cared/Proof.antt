@@ -6,7 +6,7 @@ use Prim.Native.Nat.{ℕ, _-_, _≤_, _<_}
 use native.Mathlib.Omega.{arith}
 use borrow.Author.Needs.{needs}
 use borrow.Author.Count.{below-more}
-use Rattle.numbers.specs.Tests.{isSome, firstFrom}
+use Rattle.numbers.specs.Tests.{isSome}
 use Rattle.numbers.proofs.FirstLaws.{first-at, first-fails}
 use Rattle.table.specs.Table.{rows, cared}
 use Rattle.table.proofs.TableLaws.{rows-le}

@@ -1,12 +1,9 @@
 -- `gate::agrees_at` meets its contract: where gate and table differ, the row's care decides. Assumes nothing.
 use mathlib.Core.Path.{_≡_, sym, _∙_, ap, ap₂}
-use mathlib.Core.Bool.{Bool, true, false, not, Bool·beq, _||_, or-true, or-false}
+use mathlib.Core.Bool.{Bool, not, Bool·beq, _||_, or-true, or-false}
 use borrow.Author.Needs.{needs}
-use borrow.Author.Tests.{not-true, not-false}
 use Rattle.numbers.specs.Tests.{sameBool}
 use Rattle.numbers.proofs.TestLaws.{same-bool-beq}
-use Rattle.types.specs.declared.table.Table.{Table}
-use Rattle.types.specs.declared.gate.Gate.{Gate}
 use Rattle.table.specs.Table.{value, cared}
 use Rattle.function.specs.Gate.{gateTrue}
 use Rattle.function.specs.Function.{level}

@@ -1,5 +1,5 @@
 -- `inputs::both_cared` meets its contract: the second row is looked at where the first is cared for. Assumes nothing.
-use mathlib.Core.Path.{_≡_, sym, _∙_, ap}
+use mathlib.Core.Path.{sym, _∙_, ap}
 use mathlib.Core.Bool.{Bool, _&&_}
 use borrow.Author.Needs.{needs}
 use Rattle.table.specs.Table.{bitAt}

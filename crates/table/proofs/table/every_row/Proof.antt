@@ -1,10 +1,10 @@
 -- `table::every_row` meets its contract. The loop's invariant: the bytes below `at` are stored. The measure is the number of bytes left.
 -- Assumes nothing.
-use mathlib.Core.Path.{_≡_, sym, _∙_}
+use mathlib.Core.Path.{_≡_, _∙_}
 use mathlib.Core.Bool.{true}
-use Prim.Native.Nat.{ℕ, _-_, _*_, _≤_, _<_}
+use Prim.Native.Nat.{_-_, _*_, _≤_, _<_}
 use native.Mathlib.Omega.{arith}
-use lib.ListN.{length, replicate, length-replicate}
+use lib.ListN.{replicate}
 use borrow.Author.Needs.{needs}
 use Rattle.numbers.proofs.TabulateLaws.{filled, filled-none, filled-more}
 use Rattle.table.specs.Table.{rowsOf, rowByte}

@@ -1,13 +1,12 @@
 -- `table::full_byte` meets its contract: what a division by 2 to the number of rows leaves of 255 has the bits of the rows. Assumes nothing.
-use mathlib.Core.Path.{_≡_, refl, sym, _∙_, ap}
+use mathlib.Core.Path.{_≡_, refl, _∙_, ap}
 use native.Mathlib.Nat.{one-mul, mod-eq-of-lt}
 use mathlib.Core.Bool.{true}
 use Prim.Native.Nat.{ℕ, zero, suc, _+_, _-_, _*_, _%_, _^_, _≤_, _<_}
 use native.Mathlib.Omega.{arith}
 use lib.Pow.{pow-pos, pow-mono}
 use borrow.Author.Needs.{needs}
-use Rattle.numbers.specs.Packed.{bitIn}
-use Rattle.table.specs.Table.{rowsOf, rowByte}
+use Rattle.table.specs.Table.{rowsOf}
 use Rattle.table.proofs.TableLaws.{byte-filled}
 use Rattle.table.proofs.RowLaws.{all-kept, some-kept, row-byte, every-bit}
 use Rattle.table.proofs.table.full_byte.Statement.{statement}

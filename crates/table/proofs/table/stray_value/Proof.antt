@@ -2,14 +2,13 @@
 -- is the number of bytes left. Assumes nothing.
 use mathlib.Core.Path.{_≡_, sym, _∙_, ap}
 use mathlib.Core.Bool.{true}
-use Prim.Native.Nat.{ℕ, _+_, _-_, _*_, _/_, _%_, _≤_, _<_}
+use Prim.Native.Nat.{ℕ, _+_, _-_, _*_, _≤_, _<_}
 use native.Mathlib.Decide.{decLe}
 use native.Mathlib.Omega.{arith}
 use lib.ListN.{getD}
 use mir.Syntax.{w8}
 use mir.Val.{Fits}
 use borrow.Author.Needs.{needs}
-use Rattle.types.specs.declared.table.Table.{Table}
 use Rattle.table.proofs.TableLaws.{bytes-le}
 use Rattle.table.proofs.RowLaws.{ByteArray}
 use Rattle.table.proofs.CareLaws.{kept-at, byte-kept, byte-shows, kept-all}

@@ -1,9 +1,8 @@
 -- `table::whole_table` meets its contract. Assumes nothing.
-use mathlib.Core.Path.{_≡_, ap}
+use mathlib.Core.Path.{ap}
 use mathlib.Core.List.{List}
 use Prim.Native.Nat.{ℕ}
 use borrow.Author.Needs.{needs}
-use Rattle.types.specs.declared.table.Table.{Table}
 use Rattle.table.proofs.table.whole_table.Statement.{statement}
 use Rattle.table.proofs.table.whole_table.Tie as tie
 

@@ -1,13 +1,13 @@
 -- `witness::counts_cared` meets its contract. The loop's invariant: the rows below `row` are cared for or have no count. The measure is the number
 -- of rows left. Assumes nothing.
-use mathlib.Core.Path.{_≡_, refl, sym, _∙_, ap}
-use mathlib.Core.Bool.{Bool, true, false, not, _||_}
+use mathlib.Core.Path.{_≡_, sym, _∙_}
+use mathlib.Core.Bool.{Bool, true, false, _||_}
 use mathlib.Core.List.{List}
 use Prim.Native.Nat.{ℕ, _-_, _≤_, _<_}
 use native.Mathlib.Omega.{arith}
 use lib.Dec.{eqb}
 use borrow.Author.Needs.{needs}
-use borrow.Author.Tests.{eq-eqb, ne-eqb, not-true, not-false}
+use borrow.Author.Tests.{not-true, not-false}
 use Rattle.numbers.specs.Tests.{allBelow}
 use Rattle.numbers.proofs.TestLaws.{all-below-zero, all-below-more, all-below-fails}
 use Rattle.types.specs.declared.table.Table.{Table}
@@ -19,19 +19,19 @@ use Rattle.table.proofs.witness.counts_cared.Tie as tie
 
 module _ (t : Table) (counts : List ℕ) where
   -- whether a row is cared for or has no count
-  abbrev spared : ℕ → Bool
-  spared r = cared t r || eqb (countOf counts r) 0
+  abbrev allowed : ℕ → Bool
+  allowed r = cared t r || eqb (countOf counts r) 0
 
-  cared-fails : (r : ℕ) → r < rows t → spared r ≡ false → countsCared (functionOf t) (countOf counts) ≡ false
+  cared-fails : (r : ℕ) → r < rows t → allowed r ≡ false → countsCared (functionOf t) (countOf counts) ≡ false
   unfolding countsCared
-  cared-fails r h e = all-below-fails (rows t) spared r h e
+  cared-fails r h e = all-below-fails (rows t) allowed r h e
 
-  cared-all : allBelow (rows t) spared ≡ true → countsCared (functionOf t) (countOf counts) ≡ true
+  cared-all : allBelow (rows t) allowed ≡ true → countsCared (functionOf t) (countOf counts) ≡ true
   unfolding countsCared
   cared-all e = e
 
 abbrev Inv-loop : tie.InvT-loop
-Inv-loop table counts rows row₀ row = (row ≤ rows) × (allBelow row (spared table counts) ≡ true)
+Inv-loop table counts rows row₀ row = (row ≤ rows) × (allBelow row (allowed table counts) ≡ true)
 
 abbrev μ-loop : tie.MeasureT-loop
 μ-loop table counts rows row₀ row = rows - row
@@ -47,12 +47,12 @@ returns c =
     let head = c .before .before .before .before in
     let a = head .before .before .args in
     let below : head .loop .row < rows (a .table) = omega (arith, head .before .row-count .ensures) in
-    sym (cared-fails (a .table) (a .counts .now) _ below (sym (c .before .is-spared .ensures) ∙ not-true _ (c .if1 .taken)))
+    sym (cared-fails (a .table) (a .counts .now) _ below (sym (c .before .may-count .ensures) ∙ not-true _ (c .if1 .taken)))
 
 loop-again : tie.Need-loop-again Inv-loop μ-loop
 loop-again c =
     let head = c .before .before .before .before in
-    (omega arith, all-below-more (head .loop .row) _ (head .loop .inv .1) (sym (c .before .is-spared .ensures) ∙ not-false _ (c .if1 .left)))
+    (omega arith, all-below-more (head .loop .row) _ (head .loop .inv .1) (sym (c .before .may-count .ensures) ∙ not-false _ (c .if1 .left)))
 
 returns-2 : tie.Need-returns-2 Inv-loop μ-loop
 returns-2 c =

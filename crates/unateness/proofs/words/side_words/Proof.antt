@@ -9,7 +9,6 @@ use borrow.Author.Needs.{needs}
 use lib.Bits.{bitAnd}
 use lib.Dec.{ltb}
 use lib.ListN.{replicate}
-use Rattle.numbers.specs.Tabulate.{tabulate}
 use Rattle.numbers.specs.Packed.{packed}
 use Rattle.numbers.specs.Tests.{sameBool}
 use Rattle.numbers.proofs.PackedLaws.{packed-ext}

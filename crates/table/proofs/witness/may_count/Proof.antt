@@ -1,12 +1,11 @@
--- `witness::is_spared` meets its contract: a row without a count is spared, and its care decides for another. Assumes nothing.
-use mathlib.Core.Path.{_≡_, sym, _∙_, ap}
+-- `witness::may_count` meets its contract: a count of 0 may stand on any row, and the care of the row decides for another. Assumes nothing.
+use mathlib.Core.Path.{sym, _∙_, ap}
 use mathlib.Core.Bool.{Bool, _||_, or-true, or-false}
-use lib.Dec.{eqb}
 use borrow.Author.Needs.{needs}
 use borrow.Author.Tests.{eq-eqb, ne-eqb}
 use Rattle.table.specs.Table.{cared}
-use Rattle.table.proofs.witness.is_spared.Statement.{statement}
-use Rattle.table.proofs.witness.is_spared.Tie as tie
+use Rattle.table.proofs.witness.may_count.Statement.{statement}
+use Rattle.table.proofs.witness.may_count.Tie as tie
 
 returns : tie.Need-returns
 returns c =
@@ -19,5 +18,5 @@ returns-2 c =
     c .row-cared .ensures
     ∙ sym (ap (λ (b : Bool). cared (a .table) (a .row) || b) (ne-eqb (a .count) 0 (c .before .if1 .left)) ∙ or-false (cared (a .table) (a .row)))
 
-pub is-spared-spec : {M : Type 1} → statement M
-is-spared-spec = tie.close (tie.spec returns (λ c κs. search needs) returns-2)
+pub may-count-spec : {M : Type 1} → statement M
+may-count-spec = tie.close (tie.spec returns (λ c κs. search needs) returns-2)
