@@ -1,7 +1,7 @@
 // A witness as text, written into a lent buffer at a position. Each function that writes returns the position after its text.
 use heights::page::page;
+use table::table::row_bit;
 use table::table::row_count;
-use table::table::row_value;
 use text::decimal::put_decimal;
 use text::field::put_byte;
 use text::field::put_letter;
@@ -9,7 +9,7 @@ use text::field::put_number;
 use types::table::Table;
 ghost use mathlib.Core.Path.{_≡_};
 ghost use Prim.Native.Nat.{_*_, _≤_, _<_};
-ghost use Rattle.table.specs.Table.{value};
+ghost use Rattle.table.specs.Table.{bitAt};
 ghost use Rattle.function.specs.Witness.{onlyIf};
 ghost use Rattle.heights.specs.Page.{trueInputs, manualPage};
 ghost use Rattle.codec.specs.Written.{Room, Put};
@@ -17,12 +17,12 @@ ghost use Rattle.notation.specs.WitnessText.{height, pairText, pairsText
 
 // Returns what a row adds to the height: if it is true, its count × its true inputs, by the manual's page. The count is asked first, since most
 // rows have none and their values take longer to look up.
-fn height_term(table: Table, heights: &[u8; 256], row: usize, count: u32) -> u64
+fn height_term(values: &[u8; 32], heights: &[u8; 256], row: usize, count: u32) -> u64
     requires { ⌜ (row < 256) × (now heights ≡ manualPage) ⌝ }
-    ensures { λ r. ⌜ (r ≡ onlyIf (value table row) (count * trueInputs 8 row)) × (r ≤ 34359738360) ⌝ }
+    ensures { λ r. ⌜ (r ≡ onlyIf (bitAt (now (values .entry)) row) (count * trueInputs 8 row)) × (r ≤ 34359738360) ⌝ }
 {
     if count > 0 {
-        if row_value(table, row) {
+        if row_bit(values, row) {
             return count as u64 * heights[row] as u64;
         }
     }
@@ -35,11 +35,12 @@ fn height_of(table: Table, counts: &[u32; 256]) -> u64
     ensures { λ r. ⌜ r ≡ height table (now (counts .entry)) ⌝ }
 {
     let heights = page();
+    let values = table.bytes;
     let rows = row_count(table.n);
     let mut sum: u64 = 0;
     let mut row: usize = 0;
     while row < rows {
-        sum = sum + height_term(table, &heights, row, counts[row]);
+        sum = sum + height_term(&values, &heights, row, counts[row]);
         row = row + 1;
     }
     sum

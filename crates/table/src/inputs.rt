@@ -1,4 +1,5 @@
 // The kinds of a table's inputs.
+use crate::table::row_bit;
 use crate::table::row_count;
 use types::inputs::InputKind;
 use types::inputs::Place;
@@ -14,16 +15,6 @@ ghost use Rattle.table.specs.Table.{bitAt, functionOf};
 pub enum Lowest {
     At(usize),
     Nowhere,
-}
-
-// Returns the bit of a row, among values or care bits.
-fn row_bit(bits: &[u8; 32], row: usize) -> bool
-    requires { ⌜ row < 256 ⌝ }
-    ensures { λ r. ⌜ r ≡ bitAt (now (bits .entry)) row ⌝ }
-{
-    let at = row / 8;
-    let byte = bits[at];
-    (byte >> (row % 8)) % 2 == 1
 }
 
 // Whether two rows are cared for.

@@ -5,7 +5,7 @@ ghost use mathlib.Core.Bool.{true, false, not};
 ghost use Prim.Native.Nat.{ℕ, _*_, _^_, _≤_, _<_};
 ghost use lib.ListN.{drop};
 ghost use Rattle.numbers.specs.Tests.{allAtMost};
-ghost use Rattle.table.specs.Table.{rowsOf, byteCount, value, cared, rowByte, everyRow, wholeTable, isWhole, strayValue, spareSet};
+ghost use Rattle.table.specs.Table.{rowsOf, byteCount, bitAt, value, cared, rowByte, everyRow, wholeTable, isWhole, strayValue, spareSet};
 
 // Returns the number of rows.
 pub fn row_count(n: u8) -> usize
@@ -21,6 +21,16 @@ pub fn byte_count(n: u8) -> usize
     ensures { λ r. ⌜ r ≡ byteCount n ⌝ }
 {
     (row_count(n) + 7) / 8
+}
+
+// Returns the bit of a row, among lent values or care bits.
+pub fn row_bit(bits: &[u8; 32], row: usize) -> bool
+    requires { ⌜ row < 256 ⌝ }
+    ensures { λ r. ⌜ r ≡ bitAt (now (bits .entry)) row ⌝ }
+{
+    let at = row / 8;
+    let byte = bits[at];
+    (byte >> (row % 8)) % 2 == 1
 }
 
 // Returns the table's value on a row.

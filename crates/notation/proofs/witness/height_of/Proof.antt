@@ -15,19 +15,19 @@ use Rattle.notation.proofs.witness.height_of.Statement.{statement}
 use Rattle.notation.proofs.witness.height_of.Tie as tie
 
 abbrev Inv-loop : tie.InvT-loop
-Inv-loop table counts heights rows sum₀ row₀ sum row =
-    (row ≤ rows) × (rows ≤ 256) × (sum ≤ row * 34359738360) × (sum ≡ sumBelow row (heightTerm table counts)) × (heights ≡ manualPage)
+Inv-loop counts heights values rows sum₀ row₀ sum row =
+    (row ≤ rows) × (rows ≤ 256) × (sum ≤ row * 34359738360) × (sum ≡ sumBelow row (heightTerm values counts)) × (heights ≡ manualPage)
 
 abbrev μ-loop : tie.MeasureT-loop
-μ-loop table counts heights rows sum₀ row₀ sum row = rows - row
+μ-loop counts heights values rows sum₀ row₀ sum row = rows - row
 
 loop-holds : tie.Need-loop-holds Inv-loop μ-loop
 loop-holds c =
-    (omega arith, omega (arith, rows-le (c .before .before .pre)), omega arith, sym (sum-below-zero _), c .before .page .ensures)
+    (omega arith, omega (arith, rows-le (c .before .before .before .pre)), omega arith, sym (sum-below-zero _), c .before .before .page .ensures)
 
 loop-again : tie.Need-loop-again Inv-loop μ-loop
 loop-again c =
-    let head = c .before .before .before .before in
+    let head = c .before .before .before .before .before in
     let more = c .height-term .ensures in (
       omega arith,
       head .loop .inv .1,
@@ -38,11 +38,11 @@ loop-again c =
 
 returns : tie.Need-returns Inv-loop μ-loop
 returns c =
-    let start = c .before .before .before .before in
+    let start = c .before .before .before .before .before in
     let a = start .args in
     let all : c .before .loop .row ≡ rows (a .table) = omega arith in
     c .before .loop .inv .3
-    ∙ ap (λ (m : ℕ). sumBelow m (heightTerm (a .table) (a .counts .now))) all
+    ∙ ap (λ (m : ℕ). sumBelow m (heightTerm (a .table .bytes) (a .counts .now))) all
     ∙ sym (height-terms (a .table) (a .counts .now) (start .pre))
 
 pub height-of-spec : {M : Type 1} → statement M

@@ -7,7 +7,7 @@ use Prim.Native.Nat.{ℕ, _*_, _≤_}
 use native.Mathlib.Omega.{arith}
 use borrow.Author.Needs.{needs}
 use lib.ListN.{getD}
-use Rattle.table.specs.Table.{value}
+use Rattle.table.specs.Table.{bitAt}
 use Rattle.function.specs.Witness.{onlyIf}
 use Rattle.heights.specs.Page.{trueInputs}
 use Rattle.heights.proofs.PageLaws.{true-inputs-most, page-entry}
@@ -33,13 +33,13 @@ mul-result c = rw (read (start c)) (omega (arith, most (start c)))
 
 returns : tie.Need-returns
 returns c =
-    let is-true : value (start c .args .table) (start c .args .row) ≡ true = cc (c .before .before .row-value .ensures, c .before .if2 .taken) in
+    let is-true : bitAt (start c .args .values .now) (start c .args .row) ≡ true = cc (c .before .before .row-bit .ensures, c .before .if2 .taken) in
     rw (is-true, read (start c)) (refl, most (start c))
 
 returns-2 : tie.Need-returns-2
 returns-2 c =
     let a = c .before .before .before .args in
-    let is-false : value (a .table) (a .row) ≡ false = cc (c .before .row-value .ensures, c .if2 .left) in
+    let is-false : bitAt (a .values .now) (a .row) ≡ false = cc (c .before .row-bit .ensures, c .if2 .left) in
     rw is-false (refl, omega arith)
 
 -- a count of 0 adds nothing
@@ -51,7 +51,7 @@ returns-3 : tie.Need-returns-3
 returns-3 c =
     let a = c .before .args in
     let none : a .count ≡ 0 = omega arith in
-    rw none (none-added (value (a .table) (a .row)) (trueInputs 8 (a .row)), omega arith)
+    rw none (none-added (bitAt (a .values .now) (a .row)) (trueInputs 8 (a .row)), omega arith)
 
 pub height-term-spec : {M : Type 1} → statement M
 height-term-spec = tie.close (tie.spec (λ c κs. search needs) (λ c. search needs) cast-result mul-result returns returns-2 returns-3)

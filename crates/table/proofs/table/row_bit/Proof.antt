@@ -1,8 +1,8 @@
--- `inputs::row_bit` meets its contract: a shift to the right is a division by a power of two. Assumes nothing.
+-- `table::row_bit` meets its contract: a shift to the right is a division by a power of two. Assumes nothing.
 use borrow.Author.Needs.{needs}
 use Rattle.table.specs.Table.{bitAt}
-use Rattle.table.proofs.inputs.row_bit.Statement.{statement}
-use Rattle.table.proofs.inputs.row_bit.Tie as tie
+use Rattle.table.proofs.table.row_bit.Statement.{statement}
+use Rattle.table.proofs.table.row_bit.Tie as tie
 
 returns : tie.Need-returns
 unfolding bitAt
