@@ -29,8 +29,8 @@ pub fn row_bit(bits: &[u8; 32], row: usize) -> bool
     ensures { λ r. ⌜ r ≡ bitAt (now (bits .entry)) row ⌝ }
 {
     let at = row / 8;
-    let byte = bits[at];
-    (byte >> (row % 8)) % 2 == 1
+    let part = bits[at];
+    (part >> (row % 8)) % 2 == 1
 }
 
 // Returns the table's value on a row.
