@@ -3,6 +3,7 @@ use lanes::block::block_count;
 use machine::scan::byte_values;
 use table::table::byte_count;
 use table::table::row_count;
+use table::table::some_free;
 use types::table::Table;
 ghost use mathlib.Core.Path.{_≡_};
 ghost use mathlib.Core.Bool.{true, false, not, _&&_};
@@ -83,22 +84,6 @@ fn lane_trues(table: Table) -> [bool; 256]
 {
     let trues = true_bytes(table);
     lane_bits(&trues, table.n)
-}
-
-// Whether a byte of the care bits is not full. Where all are, every row is cared for.
-fn some_free(table: Table) -> bool
-    requires { ⌜ table .n ≤ 8 ⌝ }
-    ensures { λ r. ⌜ (r ≡ false → (row : ℕ) → row < rows table → cared table row ≡ true) ⌝ }
-{
-    let count = byte_count(table.n);
-    let mut at: usize = 0;
-    while at < count {
-        if table.cares[at] != 255 {
-            return true;
-        }
-        at = at + 1;
-    }
-    false
 }
 
 // Stores what is taken from the distance of each row of the blocks where every row is cared for: 1 where it goes as a true one.

@@ -5,7 +5,7 @@ ghost use mathlib.Core.Bool.{true, false, not};
 ghost use Prim.Native.Nat.{ℕ, _*_, _^_, _≤_, _<_};
 ghost use lib.ListN.{drop};
 ghost use Rattle.numbers.specs.Tests.{allAtMost};
-ghost use Rattle.table.specs.Table.{rowsOf, byteCount, bitAt, value, cared, rowByte, everyRow, wholeTable, isWhole, strayValue, spareSet};
+ghost use Rattle.table.specs.Table.{rowsOf, rows, byteCount, bitAt, value, cared, rowByte, everyRow, wholeTable, isWhole, strayValue, spareSet};
 
 // Returns the number of rows.
 pub fn row_count(n: u8) -> usize
@@ -91,6 +91,22 @@ pub fn whole_table(n: u8, bytes: [u8; 32]) -> Table
         bytes,
         cares: every_row(n),
     }
+}
+
+// Whether a byte of the care bits is not full. Where all are, every row is cared for.
+pub fn some_free(table: Table) -> bool
+    requires { ⌜ table .n ≤ 8 ⌝ }
+    ensures { λ r. ⌜ (r ≡ false → (row : ℕ) → row < rows table → cared table row ≡ true) ⌝ }
+{
+    let count = byte_count(table.n);
+    let mut at: usize = 0;
+    while at < count {
+        if table.cares[at] != 255 {
+            return true;
+        }
+        at = at + 1;
+    }
+    false
 }
 
 // Whether every row is cared for.

@@ -1,6 +1,7 @@
 // A witness: a count for each row, and whether the counts are in their ranges.
 use crate::table::row_cared;
 use crate::table::row_count;
+use crate::table::some_free;
 use types::table::Table;
 use types::witness::Witness;
 ghost use mathlib.Core.Path.{_≡_};
@@ -47,6 +48,9 @@ pub fn counts_cared(table: Table, counts: &[u32; 256]) -> bool
     requires { ⌜ table .n ≤ 8 ⌝ }
     ensures { λ r. ⌜ r ≡ countsCared (functionOf table) (countOf (now (counts .entry))) ⌝ }
 {
+    if !some_free(table) {
+        return true;
+    }
     let rows = row_count(table.n);
     let mut row: usize = 0;
     while row < rows {

@@ -1,4 +1,4 @@
--- `keys::some_free` meets its contract. The loop's invariant: the rows of the bytes passed are cared for. The measure is the number of bytes
+-- `table::some_free` meets its contract. The loop's invariant: the rows of the bytes passed are cared for. The measure is the number of bytes
 -- left. Assumes nothing.
 use mathlib.Core.Path.{_≡_, sym, _∙_, ap}
 use mathlib.Core.Bool.{true}
@@ -10,11 +10,11 @@ use borrow.Author.Needs.{needs}
 use lib.ListN.{getD}
 use Rattle.numbers.specs.Packed.{bitIn}
 use Rattle.numbers.proofs.TestLaws.{no-true}
 use Rattle.table.specs.Table.{bitAt}
 use Rattle.table.proofs.TableLaws.{bytes-le}
 use Rattle.table.proofs.RowLaws.{every-bit}
-use Rattle.search.proofs.keys.some_free.Statement.{statement}
-use Rattle.search.proofs.keys.some_free.Tie as tie
+use Rattle.table.proofs.table.some_free.Statement.{statement}
+use Rattle.table.proofs.table.some_free.Tie as tie
 
 -- the rows of a full byte are cared for
 full-rows : (cares : List ℕ) (at row : ℕ) → getD cares at 0 ≡ 255 → 8 * at ≤ row → row < 8 * at + 8 → bitAt cares row ≡ true
