@@ -25,9 +25,9 @@ valuesBelow m bytes = tabulate 256 (inTable m bytes)
 abbrev pub rowDistance : List ℤ → ℤ → ℕ → ℤ
 rowDistance ws th r = distance ws th (level 2 r)
 
--- row r fails, by the care and the value that lists have for it and by its distance
-unfoldable pub failsAt : (cares values : List Bool) → (ℕ → ℤ) → ℕ → Bool
-failsAt cares values distance r = getD cares r false && ltZ (margin (getD values r false) (distance r)) (pos 1)
+-- row r fails, by the care bits and the values that lists have and by its distance
+unfoldable pub failsAt : List ℕ → List Bool → (ℕ → ℤ) → ℕ → Bool
+failsAt cares values distance r = bitAt cares r && ltZ (margin (getD values r false) (distance r)) (pos 1)
 
 -- the distances of twice `half` rows: below `half` those that a list holds, and from there on that of the row `half` below and the weight
 unfoldable pub doubled : (half : ℕ) → ℤ → List ℤ → ℕ → ℤ

@@ -1,6 +1,7 @@
 // The search for the lowest failing row: the distances of the rows are made one from another, in the order of the rows, and the search
 // stops at the first that fails.
 use table::inputs::Lowest;
+use table::table::row_bit;
 use types::table::Table;
 use types::vector::Vector;
 ghost use mathlib.Core.Path.{_≡_};
@@ -11,7 +12,7 @@ ghost use lib.IntN.{pos, natAbs};
 ghost use lib.Signed.{ltZ};
 ghost use Rattle.numbers.specs.Tests.{firstFrom};
 ghost use Rattle.numbers.specs.Tabulate.{tabulate, Holds};
-ghost use Rattle.table.specs.Table.{value, cared, functionOf};
+ghost use Rattle.table.specs.Table.{bitAt, value, functionOf};
 ghost use Rattle.table.specs.Gate.{weightLimit, inRange};
 ghost use Rattle.table.specs.Inputs.{lowestOf};
 ghost use Rattle.function.specs.Failing.{margin, failing};
@@ -56,14 +57,6 @@ pub fn row_values(table: Table) -> [bool; 256]
     byte_values(&bytes, 32)
 }
 
-// Returns whether each row is cared for.
-pub fn row_cares(table: Table) -> [bool; 256]
-    ensures { λ r. ⌜ r ≡ tabulate 256 (cared table) ⌝ }
-{
-    let cares = table.cares;
-    byte_values(&cares, 32)
-}
-
 // Whether a row of this care, value and distance fails: it is cared for, and its margin is below 1.
 pub fn fails_by(cared: bool, value: bool, distance: i64) -> bool
     ensures { λ r. ⌜ r ≡ (cared && ltZ (margin value distance) (pos 1)) ⌝ }
@@ -74,10 +67,18 @@ pub fn fails_by(cared: bool, value: bool, distance: i64) -> bool
     if value { distance < 1 } else { -1 < distance }
 }
 
+// The same by lent care bits. Few rows have a margin below 1, and the bits are asked for these alone.
+fn fails_in(cares: &[u8; 32], value: bool, distance: i64, row: usize) -> bool
+    requires { ⌜ row < 256 ⌝ }
+    ensures { λ r. ⌜ r ≡ (bitAt (now (cares .entry)) row && ltZ (margin value distance) (pos 1)) ⌝ }
+{
+    fails_by(true, value, distance) && row_bit(cares, row)
+}
+
 // Searches the rows from `half` to twice `half`: each has the distance of the row `half` below it and one more weight.
 fn search_block(
     distances: &mut [i32],
-    cares: &[bool; 256],
+    cares: &[u8; 32],
     values: &[bool; 256],
     half: usize,
     weight: i32,
@@ -92,7 +93,7 @@ fn search_block(
         let row = half + at;
         let distance = distances[at] + weight;
         distances[row] = distance;
-        if fails_by(cares[row], values[row], distance as i64) {
+        if fails_in(cares, values[row], distance as i64, row) {
             return Lowest::At(row);
         }
         at = at + 1;
@@ -103,17 +104,17 @@ fn search_block(
 // Returns the lowest failing row. What `distances` held does not matter: it is room to work in.
 pub fn first_failing(
     distances: &mut [i32; 256],
-    cares: &[bool; 256],
+    cares: &[u8; 32],
     values: &[bool; 256],
     table: Table,
     v: Vector,
 ) -> Lowest
     requires { ⌜ (table .n ≤ 8) × (inRange weightLimit 8 (v .a) (v .b) ≡ true) ⌝ }
-    requires { ⌜ (now cares ≡ tabulate 256 (cared table)) × (now values ≡ tabulate 256 (value table)) ⌝ }
+    requires { ⌜ (now cares ≡ table .cares) × (now values ≡ tabulate 256 (value table)) ⌝ }
     ensures { λ r. ⌜ r ≡ lowestOf (failing (functionOf table) v) ⌝ }
 {
     let first = 0 - v.b;
-    if fails_by(cares[0], values[0], first as i64) {
+    if fails_in(cares, values[0], first as i64, 0) {
         return Lowest::At(0);
     }
     distances[0] = first;

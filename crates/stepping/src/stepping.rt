@@ -7,7 +7,6 @@ use machine::core::core_of;
 use machine::core::state_of;
 use machine::power::top_power;
 use machine::scan::first_failing;
-use machine::scan::row_cares;
 use machine::scan::row_values;
 use machine::vector::corrected_by;
 use machine::vector::same_vector;
@@ -61,7 +60,7 @@ fn plain_steps(table: Table, state: State, budget: u32) -> State
     requires { ⌜ (table .n ≤ 8) × Sound (functionOf table) state × (state .stage ≡ Stage.Open) × (state .k + budget ≤ cap) ⌝ }
     ensures { λ r. ⌜ r ≡ run (functionOf table) budget state ⌝ }
 {
-    let cares = row_cares(table);
+    let cares = table.cares;
     let values = row_values(table);
     let mut distances = [0i32; 256];
     let mut j = state;

@@ -79,16 +79,16 @@ sum-made : (c : tie.After-distance Inv-loop μ-loop) → toZ w32 (ofZ w32 (below
 sum-made c =
     ap (λ (z : ℤ). z +ℤ added (start c)) (toZ-ofZ (below-fits c) ∙ below-kept c) ∙ sym (doubled-high _ _ _ (c .before .before .loop .at))
 
-cast-fails-by : tie.Need-cast-fails-by Inv-loop μ-loop
-cast-fails-by c = wide-fits tt (add-distance (c .before .before))
+cast-fails-in : tie.Need-cast-fails-in Inv-loop μ-loop
+cast-fails-in c = wide-fits tt (add-distance (c .before))
 
 -- what is tested is whether the row fails
-row-fails : (c : tie.After-fails-by Inv-loop μ-loop)
-    → let round = c .before .before .before in
-    c .fails-by .result ≡ failsAt (start round .args .cares .now) (start round .args .values .now) (made (start round)) (row round)
+row-fails : (c : tie.After-fails-in Inv-loop μ-loop)
+    → let round = c .before .before in
+    c .fails-in .result ≡ failsAt (start round .args .cares .now) (start round .args .values .now) (made (start round)) (row round)
 row-fails c =
-    let round = c .before .before .before in
-    fails-at-test _ _ _ _ (c .fails-by .ensures) (wide-back w64 tt (add-distance round) ∙ sum-made round)
+    let round = c .before .before in
+    fails-at-test _ _ _ _ (c .fails-in .ensures) (wide-back w64 tt (add-distance round) ∙ sum-made round)
 
 -- the contract's distances and search
 made-is : (c : tie.Start Inv-loop μ-loop) → made c ≡ doubled (c .args .half) (c .args .weight) (c .args .distances .now)
@@ -103,7 +103,7 @@ search-is c e = ap lowestOf (sym e ∙ ap (search-by c) (made-is c))
 
 returns : tie.Need-returns Inv-loop μ-loop
 returns c =
-    let round = c .before .before .before .before in
+    let round = c .before .before .before in
     let a = start round .args in (
       search-is (start round)
           (first-at (failsAt (a .cares .now) (a .values .now) (made (start round))) (a .half) (a .half) (row round)
@@ -118,7 +118,7 @@ returns c =
 
 loop-again : tie.Need-loop-again Inv-loop μ-loop
 loop-again c =
-    let round = c .before .before .before .before in
+    let round = c .before .before .before in
     let at-head = round .before .before .loop in
     let a = start round .args in
     let passes = sym (row-fails (c .before)) ∙ c .if1 .left in (
@@ -153,8 +153,7 @@ search-block-spec =
     (λ c. search needs)
     (λ c. search needs)
     (λ c. search needs)
-    (λ c. search needs)
-    cast-fails-by
+    cast-fails-in
     (λ c κs. search needs)
     (λ c. search needs)
     returns

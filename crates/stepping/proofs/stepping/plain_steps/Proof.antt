@@ -1,7 +1,7 @@
 -- `stepping::stepping::plain_steps` meets its contract. The loop's invariant: its state stands where the machine does after `made` steps
 -- (`Unsettled` of UnsettledLaws), `next` is what the search by its vector found, and `made` is at most the budget. The measure is what is
 -- left of the budget. Assumes nothing.
-use mathlib.Core.Path.{_≡_, sym, _∙_, ap}
+use mathlib.Core.Path.{_≡_, refl, sym, _∙_, ap}
 use mathlib.Core.Logic.{⊎-elim}
 use mathlib.Core.Bool.{Bool, false}
 use mathlib.Core.List.{List}
@@ -45,7 +45,7 @@ first-failing-requires c κs =
     let listed = c .before .before .before .before in
     let p = listed .before .before .pre in (
       (p .0, unsettled-bounded (p .0) (p .1) (omega arith) (unsettled-start (p .1) (p .2)) .ranged),
-      (listed .before .row-cares .ensures, listed .row-values .ensures),
+      (refl, listed .row-values .ensures),
     )
 
 loop-holds : tie.Need-loop-holds Inv-loop μ-loop
@@ -170,7 +170,7 @@ first-failing-requires-2 c κs =
     let p = entry (head at) .pre in
     let few : state (head at) .k + (head at .loop .made + 1) ≤ cap = omega (arith, p .3, at .before .before .before .loop-test .taken) in
     let rows = listed (head at) in
-    ((p .0, unsettled-bounded (p .0) (p .1) few (unsettled-on on) .ranged), (rows .before .row-cares .ensures, rows .row-values .ensures))
+    ((p .0, unsettled-bounded (p .0) (p .1) few (unsettled-on on) .ranged), (refl, rows .row-values .ensures))
 
 add-made : tie.Need-add-made Inv-loop μ-loop
 add-made c =
@@ -199,7 +199,6 @@ plain-steps-spec =
     (tie.spec
     Inv-loop
     μ-loop
-    (λ c κs. search needs)
     (λ c κs. search needs)
     first-failing-requires
     loop-holds
