@@ -15,15 +15,14 @@ use lib.Signed.{ltZ}
 use borrow.Author.Tests.{lt-ltb, le-ltb}
 use Rattle.table.proofs.InputLaws.{lowest-some, lowest-none}
 use Rattle.numbers.specs.Tests.{firstFrom}
-use Rattle.numbers.specs.Tabulate.{tabulate, Holds}
+use Rattle.numbers.specs.Tabulate.{Holds}
 use Rattle.numbers.proofs.FirstLaws.{IsFirst, first-some, first-none}
-use Rattle.numbers.proofs.TabulateLaws.{getD-tabulate}
 use Rattle.types.specs.declared.table.Table.{Table}
 use Rattle.table.specs.declared.inputs.Lowest.the-variants.{At, Nowhere}
 use Rattle.table.specs.Table.{bitAt, rows, value, cared, functionOf}
 use Rattle.function.specs.Gate.{distance}
 use Rattle.table.specs.Inputs.{lowestOf}
-use Rattle.table.proofs.TableLaws.{rows-le, level-past}
+use Rattle.table.proofs.TableLaws.{level-past}
 use Rattle.types.specs.declared.vector.Vector.{Vector}
 use Rattle.function.specs.Failing.{margin, fails, failing}
 use Rattle.machine.specs.Scan.{rowDistance, failsAt, doubled}
@@ -57,12 +56,12 @@ module _ (half : ℕ) (weight : ℤ) (distances : List ℤ) where
 -- ---- the rows passed
 
 -- a list holds the distances of the rows below m, and none of those from `low` on fails
-pub record Passed (cares : List ℕ) (values : List Bool) (d : ℕ → ℤ) (low m : ℕ) (distances : List ℤ) : Type 0 where
+pub record Passed (cares values : List ℕ) (d : ℕ → ℤ) (low m : ℕ) (distances : List ℤ) : Type 0 where
   pub holds : Holds d m distances
   pub none-fails : (r : ℕ) → low ≤ r → r < m → failsAt cares values d r ≡ false
 
 -- a row more, with its distance stored, is passed where it does not fail
-pub passed-more : (cares : List ℕ) (values : List Bool) (d : ℕ → ℤ) (low m : ℕ) (distances : List ℤ) (x : ℤ) → m < length distances → x ≡ d m → failsAt cares values d m ≡ false
+pub passed-more : (cares values : List ℕ) (d : ℕ → ℤ) (low m : ℕ) (distances : List ℤ) (x : ℤ) → m < length distances → x ≡ d m → failsAt cares values d m ≡ false
     → Passed cares values d low m distances
     → Passed cares values d low (m + 1) (set distances m x)
 passed-more cares values d low m distances x k e f p = record { holds = holds-more d m distances k e (p .holds); none-fails = λ r g l. fail r g l (decLe m r) }
@@ -72,16 +71,16 @@ passed-more cares values d low m distances x k e f p = record { holds = holds-mo
     fail r g l (no below) = p .none-fails r g (omega (arith, below))
 
 -- a row fails or not by its own distance
-fails-at-ext : (cares : List ℕ) (values : List Bool) (d e : ℕ → ℤ) (r : ℕ) → d r ≡ e r → failsAt cares values d r ≡ failsAt cares values e r
+fails-at-ext : (cares values : List ℕ) (d e : ℕ → ℤ) (r : ℕ) → d r ≡ e r → failsAt cares values d r ≡ failsAt cares values e r
 unfolding failsAt
 fails-at-ext cares values d e r same = rw same
 
 -- what code tests, by the row's care and value and its distance x, is whether the row fails
-pub fails-at-test : {test : Bool} {x : ℤ} (cares : List ℕ) (values : List Bool) (d : ℕ → ℤ) (r : ℕ)
-    → test ≡ (bitAt cares r && ltZ (margin (getD values r false) x) (pos 1)) → x ≡ d r
+pub fails-at-test : {test : Bool} {x : ℤ} (cares values : List ℕ) (d : ℕ → ℤ) (r : ℕ)
+    → test ≡ (bitAt cares r && ltZ (margin (bitAt values r) x) (pos 1)) → x ≡ d r
     → test ≡ failsAt cares values d r
 unfolding failsAt
-fails-at-test cares values d r e same = e ∙ ap (λ (z : ℤ). bitAt cares r && ltZ (margin (getD values r false) z) (pos 1)) same
+fails-at-test cares values d r e same = e ∙ ap (λ (z : ℤ). bitAt cares r && ltZ (margin (bitAt values r) z) (pos 1)) same
 
 -- ---- the block of an input: the partners of the rows below 2 ^ place
 
@@ -90,10 +89,10 @@ abbrev pub blockDistance : List ℤ → ℕ → List ℤ → ℕ → ℤ
 blockDistance ws place distances = doubled (2 ^ place) (getD ws place (pos 0)) distances
 
 -- the search through the block
-abbrev pub blockSearch : (cares : List ℕ) (values : List Bool) → List ℤ → ℕ → List ℤ → Option ℕ
+abbrev pub blockSearch : (cares values : List ℕ) → List ℤ → ℕ → List ℤ → Option ℕ
 blockSearch cares values ws place distances = firstFrom (failsAt cares values (blockDistance ws place distances)) (2 ^ place) (2 ^ place)
 
-module _ (ws : List ℤ) (th : ℤ) (cares : List ℕ) (values : List Bool) (place : ℕ) (distances : List ℤ)
+module _ (ws : List ℤ) (th : ℤ) (cares values : List ℕ) (place : ℕ) (distances : List ℤ)
     (passed : Passed cares values (rowDistance ws th) 0 (2 ^ place) distances)
   where
     -- the rows before the block and in it have their distances
@@ -153,31 +152,28 @@ module _ (ws : List ℤ) (th : ℤ) (cares : List ℕ) (values : List Bool) (pla
 
 -- ---- the search of a table
 
-module _ (t : Table) (v : Vector) (cares : List ℕ) (values : List Bool) (small : t .n ≤ 8)
-    (read : (cares ≡ t .cares) × (values ≡ tabulate 256 (value t)))
-  where
-    -- a row of the table fails by the cares and values that were read from it
-    fails-read : (r : ℕ) → r < rows t → failsAt cares values (rowDistance (v .a) (v .b)) r ≡ fails (functionOf t) v r
-    unfolding failsAt fails
-    fails-read r h =
-        let inside : r < 256 = omega (arith, rows-le small) in
-        let care : bitAt cares r ≡ cared t r = ap (λ (l : List ℕ). bitAt l r) (read .0) in
-        let is : getD values r false ≡ value t r = rw (read .1) (getD-tabulate (value t) 256 r false inside) in
-        ap₂ (λ (c y : Bool). c && ltZ (margin y (distance (v .a) (v .b) (level 2 r))) (pos 1)) care is
+module _ (t : Table) (v : Vector) (cares values : List ℕ) (read : (cares ≡ t .cares) × (values ≡ t .bytes)) where
+  -- a row of the table fails by the cares and values that were read from it
+  fails-read : (r : ℕ) → failsAt cares values (rowDistance (v .a) (v .b)) r ≡ fails (functionOf t) v r
+  unfolding failsAt fails
+  fails-read r =
+      let care : bitAt cares r ≡ cared t r = ap (λ (l : List ℕ). bitAt l r) (read .0) in
+      let is : bitAt values r ≡ value t r = ap (λ (l : List ℕ). bitAt l r) (read .1) in
+      ap₂ (λ (c y : Bool). c && ltZ (margin y (distance (v .a) (v .b) (level 2 r))) (pos 1)) care is
 
-    -- the lowest of the rows below m that fails is what is found
-    pub scan-row : (m q : ℕ) → m ≤ rows t → IsFirst (failsAt cares values (rowDistance (v .a) (v .b))) m 0 q → At q ≡ lowestOf (failing (functionOf t) v)
-    scan-row m q h f =
-        sym
-        (ap lowestOf
-        (failing-at (functionOf t) v q
-        record {
-          start = omega arith;
-          inside = omega arith;
-          passes = sym (fails-read q (omega arith)) ∙ f .passes;
-          before = λ r l k. sym (fails-read r (omega arith)) ∙ f .before r l k;
-        }))
+  -- the lowest of the rows below m that fails is what is found
+  pub scan-row : (m q : ℕ) → m ≤ rows t → IsFirst (failsAt cares values (rowDistance (v .a) (v .b))) m 0 q → At q ≡ lowestOf (failing (functionOf t) v)
+  scan-row m q h f =
+      sym
+      (ap lowestOf
+      (failing-at (functionOf t) v q
+      record {
+        start = omega arith;
+        inside = omega arith;
+        passes = sym (fails-read q) ∙ f .passes;
+        before = λ r l k. sym (fails-read r) ∙ f .before r l k;
+      }))
 
-    -- where no row fails, nothing is
-    pub scan-nowhere : ((r : ℕ) → r < rows t → failsAt cares values (rowDistance (v .a) (v .b)) r ≡ false) → Nowhere ≡ lowestOf (failing (functionOf t) v)
-    scan-nowhere p = sym (ap lowestOf (none-failing (functionOf t) v (λ r h. sym (fails-read r h) ∙ p r h)))
+  -- where no row fails, nothing is
+  pub scan-nowhere : ((r : ℕ) → r < rows t → failsAt cares values (rowDistance (v .a) (v .b)) r ≡ false) → Nowhere ≡ lowestOf (failing (functionOf t) v)
+  scan-nowhere p = sym (ap lowestOf (none-failing (functionOf t) v (λ r h. sym (fails-read r) ∙ p r h)))

@@ -74,7 +74,3 @@ module _ (bytes : List ℕ) where
           in-table-past (8 * at) r from
           ∙ sym (in-table-below (8 * (at + 1)) r (omega (arith, before)) ∙ bit-false at r e (omega (arith, before)))
       same r (no before) d = in-table-below (8 * at) r (omega (arith, before)) ∙ sym (in-table-below (8 * (at + 1)) r (omega (arith, before)))
-
-  -- all rows
-  pub values-all : (m : ℕ) → 256 ≤ m → valuesBelow m bytes ≡ tabulate 256 (bitAt bytes)
-  values-all m h = tabulate-ext _ _ 256 (λ r l. in-table-below m r (omega arith))

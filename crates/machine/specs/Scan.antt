@@ -1,6 +1,6 @@
--- The lists in which the search for the lowest failing row works: the cares and the values of the rows, and the distances of the rows so far,
--- of which an input makes twice as many. For the inside of the machine alone. Definitions only. Assumes nothing.
-use mathlib.Core.Bool.{Bool, false, cond, _&&_}
+-- The lists in which the search for the lowest failing row works: the care bits and the values of the rows, and the distances of the rows so
+-- far, of which an input makes twice as many. For the inside of the machine alone. Definitions only. Assumes nothing.
+use mathlib.Core.Bool.{Bool, cond, _&&_}
 use mathlib.Core.List.{List}
 use Prim.Native.Nat.{ℕ, _-_}
 use lib.Dec.{ltb}
@@ -25,9 +25,9 @@ valuesBelow m bytes = tabulate 256 (inTable m bytes)
 abbrev pub rowDistance : List ℤ → ℤ → ℕ → ℤ
 rowDistance ws th r = distance ws th (level 2 r)
 
--- row r fails, by the care bits and the values that lists have and by its distance
-unfoldable pub failsAt : List ℕ → List Bool → (ℕ → ℤ) → ℕ → Bool
-failsAt cares values distance r = bitAt cares r && ltZ (margin (getD values r false) (distance r)) (pos 1)
+-- row r fails, by the care bits and the values that bytes have and by its distance
+unfoldable pub failsAt : List ℕ → List ℕ → (ℕ → ℤ) → ℕ → Bool
+failsAt cares values distance r = bitAt cares r && ltZ (margin (bitAt values r) (distance r)) (pos 1)
 
 -- the distances of twice `half` rows: below `half` those that a list holds, and from there on that of the row `half` below and the weight
 unfoldable pub doubled : (half : ℕ) → ℤ → List ℤ → ℕ → ℤ

@@ -11,8 +11,8 @@ ghost use lib.ListN.{length, getD};
 ghost use lib.IntN.{pos, natAbs};
 ghost use lib.Signed.{ltZ};
 ghost use Rattle.numbers.specs.Tests.{firstFrom};
-ghost use Rattle.numbers.specs.Tabulate.{tabulate, Holds};
-ghost use Rattle.table.specs.Table.{bitAt, value, functionOf};
+ghost use Rattle.numbers.specs.Tabulate.{Holds};
+ghost use Rattle.table.specs.Table.{bitAt, functionOf};
 ghost use Rattle.table.specs.Gate.{weightLimit, inRange};
 ghost use Rattle.table.specs.Inputs.{lowestOf};
 ghost use Rattle.function.specs.Failing.{margin, failing};
@@ -49,14 +49,6 @@ pub fn byte_values(bytes: &[u8; 32], count: usize) -> [bool; 256]
     values
 }
 
-// Returns the table's value on each row.
-pub fn row_values(table: Table) -> [bool; 256]
-    ensures { λ r. ⌜ r ≡ tabulate 256 (value table) ⌝ }
-{
-    let bytes = table.bytes;
-    byte_values(&bytes, 32)
-}
-
 // Whether a row of this care, value and distance fails: it is cared for, and its margin is below 1.
 pub fn fails_by(cared: bool, value: bool, distance: i64) -> bool
     ensures { λ r. ⌜ r ≡ (cared && ltZ (margin value distance) (pos 1)) ⌝ }
@@ -67,11 +59,12 @@ pub fn fails_by(cared: bool, value: bool, distance: i64) -> bool
     if value { distance < 1 } else { -1 < distance }
 }
 
-// The same by lent care bits. Few rows have a margin below 1, and the bits are asked for these alone.
-fn fails_in(cares: &[u8; 32], value: bool, distance: i64, row: usize) -> bool
+// The same by lent care bits and values. Few rows have a margin below 1, and the care bits are asked for these alone.
+fn fails_in(cares: &[u8; 32], values: &[u8; 32], distance: i64, row: usize) -> bool
     requires { ⌜ row < 256 ⌝ }
-    ensures { λ r. ⌜ r ≡ (bitAt (now (cares .entry)) row && ltZ (margin value distance) (pos 1)) ⌝ }
+    ensures { λ r. ⌜ r ≡ (bitAt (now (cares .entry)) row && ltZ (margin (bitAt (now (values .entry)) row) distance) (pos 1)) ⌝ }
 {
+    let value = row_bit(values, row);
     fails_by(true, value, distance) && row_bit(cares, row)
 }
 
@@ -79,7 +72,7 @@ fn fails_in(cares: &[u8; 32], value: bool, distance: i64, row: usize) -> bool
 fn search_block(
     distances: &mut [i32],
     cares: &[u8; 32],
-    values: &[bool; 256],
+    values: &[u8; 32],
     half: usize,
     weight: i32,
 ) -> Lowest
@@ -93,7 +86,7 @@ fn search_block(
         let row = half + at;
         let distance = distances[at] + weight;
         distances[row] = distance;
-        if fails_in(cares, values[row], distance as i64, row) {
+        if fails_in(cares, values, distance as i64, row) {
             return Lowest::At(row);
         }
         at = at + 1;
@@ -105,16 +98,16 @@ fn search_block(
 pub fn first_failing(
     distances: &mut [i32; 256],
     cares: &[u8; 32],
-    values: &[bool; 256],
+    values: &[u8; 32],
     table: Table,
     v: Vector,
 ) -> Lowest
     requires { ⌜ (table .n ≤ 8) × (inRange weightLimit 8 (v .a) (v .b) ≡ true) ⌝ }
-    requires { ⌜ (now cares ≡ table .cares) × (now values ≡ tabulate 256 (value table)) ⌝ }
+    requires { ⌜ (now cares ≡ table .cares) × (now values ≡ table .bytes) ⌝ }
     ensures { λ r. ⌜ r ≡ lowestOf (failing (functionOf table) v) ⌝ }
 {
     let first = 0 - v.b;
-    if fails_in(cares, values[0], first as i64, 0) {
+    if fails_in(cares, values, first as i64, 0) {
         return Lowest::At(0);
     }
     distances[0] = first;

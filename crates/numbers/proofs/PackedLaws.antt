@@ -5,7 +5,7 @@ use Prim.Native.Nat.{ℕ, zero, suc, _+_, _-_, _*_, _/_, _%_, _^_, _≤_, _<_, m
 use native.Mathlib.Nat.{pow-suc, suc-add, zero-add, add-comm, mod-lt}
 use native.Mathlib.Omega.{arith}
 use lib.Arith.{digits-div, digits-mod}
-use lib.Bits.{bitAnd, bitOr, and-step, or-step}
+use lib.Bits.{bitAnd, bitOr, and-step, or-step, and-le-l, and-le-r, or-add-and}
 use lib.Dec.{eqb, ltb}
 use lib.Pow.{shr-shr, high, low}
 use borrow.Author.Tests.{lt-ltb, le-ltb}
@@ -82,6 +82,10 @@ packed-not-sum (suc m) f = omega (arith, packed-not-sum m (λ j. f (suc j)), not
 -- `!` of a word has the bits that it lacks
 pub packed-not : (m : ℕ) (f : ℕ → Bool) → 2 ^ m - 1 - packed m f ≡ packed m (λ j. not (f j))
 packed-not m f = omega (arith, packed-not-sum m f)
+
+-- `|` of two numbers is 0 only where both are
+pub or-none : (x y : ℕ) → bitOr x y ≡ 0 → (x ≡ 0) × (y ≡ 0)
+or-none x y e = (omega (arith, e, or-add-and x y, and-le-r x y), omega (arith, e, or-add-and x y, and-le-l x y))
 
 -- no bits make 0
 pub packed-none : (m : ℕ) (f : ℕ → Bool) → ((j : ℕ) → j < m → f j ≡ false) → packed m f ≡ 0

@@ -2,7 +2,6 @@
 use machine::core::Core;
 use machine::power::top_power;
 use machine::scan::first_failing;
-use machine::scan::row_values;
 use machine::vector::same_vector;
 use machine::vector::vector_within;
 use table::inputs::Lowest;
@@ -42,7 +41,7 @@ fn some_fails(table: Table, core: Core) -> bool
     ensures { λ r. ⌜ r ≡ isSome (failing (functionOf table) (core .v)) ⌝ }
 {
     let cares = table.cares;
-    let values = row_values(table);
+    let values = table.bytes;
     let mut distances = [0i32; 256];
     is_found(first_failing(&mut distances, &cares, &values, table, core.v))
 }

@@ -7,10 +7,10 @@ use machine::core::core_of;
 use machine::core::state_of;
 use machine::power::top_power;
 use machine::scan::first_failing;
-use machine::scan::row_values;
 use machine::vector::corrected_by;
 use machine::vector::same_vector;
 use table::inputs::Lowest;
+use table::table::row_value;
 use types::stage::Stage;
 use types::state::State;
 use types::table::Table;
@@ -61,7 +61,7 @@ fn plain_steps(table: Table, state: State, budget: u32) -> State
     ensures { λ r. ⌜ r ≡ run (functionOf table) budget state ⌝ }
 {
     let cares = table.cares;
-    let values = row_values(table);
+    let values = table.bytes;
     let mut distances = [0i32; 256];
     let mut j = state;
     let mut next = first_failing(&mut distances, &cares, &values, table, j.v);
@@ -70,7 +70,7 @@ fn plain_steps(table: Table, state: State, budget: u32) -> State
         let Lowest::At(row) = next else {
             return with_stage(j, Stage::Found);
         };
-        let v = corrected_by(j.v, values[row], row);
+        let v = corrected_by(j.v, row_value(table, row), row);
         j.v = v;
         j.k = j.k + 1;
         j.counts[row] = j.counts[row] + 1;

@@ -66,6 +66,10 @@ byte-stray b c h k =
     ∙ ap (bitAnd (packed 8 (bitIn b))) (packed-not 8 (bitIn c))
     ∙ packed-and 8 (bitIn b) (λ j. not (bitIn c j))
 
+-- the bits of byte i that are values of rows that are not cared for
+abbrev pub strayByte : Table → ℕ → ℕ
+strayByte t i = bitAnd (getD (t .bytes) i 0) (2 ^ 8 - 1 - getD (t .cares) i 0)
+
 -- whether a row has no value bit, or is cared for
 abbrev pub kept-at : Table → ℕ → Bool
 kept-at t r = not (value t r) || cared t r
@@ -79,7 +83,7 @@ not-false true e = refl
 not-false false e = sym e
 
 module _ (t : Table) (values : ByteArray (t .bytes)) (cares : ByteArray (t .cares)) where
-  stray-bits : (i : ℕ) → i < 32 → bitAnd (getD (t .bytes) i 0) (2 ^ 8 - 1 - getD (t .cares) i 0) ≡ packed 8 (λ j. not (kept-at t (8 * i + j)))
+  stray-bits : (i : ℕ) → i < 32 → strayByte t i ≡ packed 8 (λ j. not (kept-at t (8 * i + j)))
   stray-bits i l =
       byte-stray _ _ (values .fits i l) (cares .fits i l)
       ∙ packed-ext 8 _ _
@@ -87,7 +91,7 @@ module _ (t : Table) (values : ByteArray (t .bytes)) (cares : ByteArray (t .care
       ∙ ap₂ (λ (v c : Bool). not (not v || c)) (byte-bit (t .bytes) i j k) (byte-bit (t .cares) i j k))
 
   -- a byte with none keeps its eight rows
-  pub byte-kept : (i : ℕ) → i < 32 → bitAnd (getD (t .bytes) i 0) (2 ^ 8 - 1 - getD (t .cares) i 0) ≡ 0 → (j : ℕ) → j < 8 → kept-at t (8 * i + j) ≡ true
+  pub byte-kept : (i : ℕ) → i < 32 → strayByte t i ≡ 0 → (j : ℕ) → j < 8 → kept-at t (8 * i + j) ≡ true
   byte-kept i l e j k = not-false _ (packed-zero 8 (λ j. not (kept-at t (8 * i + j))) (sym (stray-bits i l) ∙ e) j k)
 
   -- where all are kept, no value is astray
@@ -102,14 +106,7 @@ module _ (t : Table) (values : ByteArray (t .bytes)) (cares : ByteArray (t .care
     kept-here e r (yes past) = ap (λ (v : Bool). not v || cared t r) (spare-none (t .n) (t .bytes) h clear r past)
     kept-here e r (no before) = all-below-at (rows t) (kept-at t) (not-false _ e) r (omega arith)
 
-    none-stray : strayValue t ≡ false → (i : ℕ) → i < 32 → bitAnd (getD (t .bytes) i 0) (2 ^ 8 - 1 - getD (t .cares) i 0) ≡ 0
+    -- so no byte has one
+    pub none-stray : strayValue t ≡ false → (i : ℕ) → i < 32 → strayByte t i ≡ 0
     none-stray e i l =
         stray-bits i l ∙ packed-none 8 _ (λ j k. ap not (kept-here e (8 * i + j) (decLe (rows t) (8 * i + j))))
-
-    -- so a byte with one shows it
-    pub byte-shows : (i : ℕ) → i < 32 → (bitAnd (getD (t .bytes) i 0) (2 ^ 8 - 1 - getD (t .cares) i 0) ≡ 0 → ⊥) → strayValue t ≡ true
-    byte-shows i l some = by (strayValue t) (λ e. none-stray e i l)
-      where
-        by : (b : Bool) → (b ≡ false → bitAnd (getD (t .bytes) i 0) (2 ^ 8 - 1 - getD (t .cares) i 0) ≡ 0) → b ≡ true
-        by true zero = refl
-        by false zero = absurd (some (zero refl))

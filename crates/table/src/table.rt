@@ -99,14 +99,13 @@ pub fn some_free(table: Table) -> bool
     ensures { λ r. ⌜ (r ≡ false → (row : ℕ) → row < rows table → cared table row ≡ true) ⌝ }
 {
     let count = byte_count(table.n);
+    let mut free: u8 = 0;
     let mut at: usize = 0;
     while at < count {
-        if table.cares[at] != 255 {
-            return true;
-        }
+        free = free | !table.cares[at];
         at = at + 1;
     }
-    false
+    free != 0
 }
 
 // Whether every row is cared for.
@@ -131,15 +130,13 @@ pub fn stray_value(table: Table) -> bool
     requires { ⌜ (table .n ≤ 8) × (spareSet (table .n) (table .bytes) ≡ false) ⌝ }
     ensures { λ r. ⌜ r ≡ strayValue table ⌝ }
 {
-    let count = byte_count(table.n);
+    let mut stray: u8 = 0;
     let mut at: usize = 0;
-    while at < count {
-        if table.bytes[at] & !table.cares[at] != 0 {
-            return true;
-        }
+    while at < 32 {
+        stray = stray | (table.bytes[at] & !table.cares[at]);
         at = at + 1;
     }
-    false
+    stray != 0
 }
 
 // Whether a byte from a place on is not 0.

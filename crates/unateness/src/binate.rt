@@ -1,5 +1,6 @@
 // The binate input of a table, and the counts that show it.
 use crate::words::pairs_at;
+use crate::words::rows_without;
 use crate::words::side_words;
 use table::inputs::Lowest;
 use table::inputs::first_turn;
@@ -19,12 +20,13 @@ fn binate_at(trues: &[u64; 4], falses: &[u64; 4], words: usize, place: usize) ->
     requires { ⌜ (words ≤ 4) × (place < 8) ⌝ }
     ensures { λ r. ⌜ ((t : Table) → rows t ≤ 64 * words → place < t .n → now (trues .entry) ≡ sideWords t .trues → now (falses .entry) ≡ sideWords t .falses → r ≡ binateAt (functionOf t) place) ⌝ }
 {
+    let lacking = rows_without(place);
     let mut rises: u64 = 0;
     let mut falls: u64 = 0;
     let mut at: usize = 0;
     while at < words {
-        let on = pairs_at(trues, place, at);
-        let off = pairs_at(falses, place, at);
+        let on = pairs_at(trues, lacking, place, at);
+        let off = pairs_at(falses, lacking, place, at);
         rises = rises | (off.own & on.partner);
         falls = falls | (on.own & off.partner);
         at = at + 1;

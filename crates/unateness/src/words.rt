@@ -80,10 +80,9 @@ pub struct Pairs {
     pub partner: u64,
 }
 
-// Returns which of 64 rows lack the input of a place.
-fn rows_without(place: usize) -> u64
-    requires { ⌜ place < 6 ⌝ }
-    ensures { λ r. ⌜ r ≡ packed 64 (lacks place) ⌝ }
+// Returns which of 64 rows lack the input of a place below 6.
+pub fn rows_without(place: usize) -> u64
+    ensures { λ r. ⌜ (place < 6 → r ≡ packed 64 (lacks place)) ⌝ }
 {
     match place {
         0 => 0x5555555555555555,
@@ -96,14 +95,13 @@ fn rows_without(place: usize) -> u64
 }
 
 // Returns the pairs of a place's input whose rows without it are among the 64 from 64 * at on. The input of a place below 6 pairs rows of
-// one word, and that of a higher place rows of two.
-pub fn pairs_at(words: &[u64; 4], place: usize, at: usize) -> Pairs
-    requires { ⌜ (place < 8) × (at < 4) ⌝ }
+// one word, of which `lacking` are without it, and that of a higher place rows of two.
+pub fn pairs_at(words: &[u64; 4], lacking: u64, place: usize, at: usize) -> Pairs
+    requires { ⌜ (place < 8) × (at < 4) × (place < 6 → lacking ≡ packed 64 (lacks place)) ⌝ }
     ensures { λ r. ⌜ ((f : ℕ → Bool) → now (words .entry) ≡ tabulate 4 (wordOf f) → r ≡ pairsOf f place at) ⌝ }
 {
     let own = words[at];
     if place < 6 {
-        let lacking = rows_without(place);
         let moved = own >> (1u64 << place);
         return Pairs {
             own: own & lacking,

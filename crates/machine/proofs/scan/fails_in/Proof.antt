@@ -17,15 +17,15 @@ neither false e = refl
 
 returns : tie.Need-returns
 returns c =
-    let start = c .before .before .before in
-    let low = rw (toZ-ofZ (start .fits .distance)) at (sym (c .before .before .fails-by .ensures) ∙ c .before .if1 .taken) in
-    c .row-bit .ensures ∙ both (bitAt (start .args .cares .now) (start .args .row)) low
+    let start = c .before .before .before .before in
+    let low = rw (toZ-ofZ (start .fits .distance), c .before .before .before .row-bit .ensures) at (sym (c .before .before .fails-by .ensures) ∙ c .before .if1 .taken) in
+    c .row-bit2 .ensures ∙ both (bitAt (start .args .cares .now) (start .args .row)) low
 
 returns-2 : tie.Need-returns-2
 returns-2 c =
-    let start = c .before .before in
-    let high = rw (toZ-ofZ (start .fits .distance)) at (sym (c .before .fails-by .ensures) ∙ c .if1 .left) in
+    let start = c .before .before .before in
+    let high = rw (toZ-ofZ (start .fits .distance), c .before .before .row-bit .ensures) at (sym (c .before .fails-by .ensures) ∙ c .if1 .left) in
     c .if1 .left ∙ neither (bitAt (start .args .cares .now) (start .args .row)) high
 
 pub fails-in-spec : {M : Type 1} → statement M
-fails-in-spec = tie.close (tie.spec (λ c κs. search needs) (λ c κs. search needs) returns returns-2)
+fails-in-spec = tie.close (tie.spec (λ c κs. search needs) (λ c κs. search needs) (λ c κs. search needs) returns returns-2)

@@ -62,21 +62,21 @@ sub-first : tie.Need-sub-first Inv-loop μ-loop
 sub-first c = rw (first-away (c .before)) (size-fits (omega (arith, away-size (c .before) 0)))
 
 cast-fails-in : tie.Need-cast-fails-in Inv-loop μ-loop
-cast-fails-in c = wide-fits tt (sub-first (c .before))
+cast-fails-in c = wide-fits tt (sub-first c)
 
 -- what is tested is whether the row fails
 first-fails : (c : tie.After-fails-in Inv-loop μ-loop)
-    → let start = c .before .before .before in
+    → let start = c .before .before in
     c .fails-in .result ≡ failsAt (start .args .cares .now) (start .args .values .now) (away start) 0
 first-fails c =
-    let told = c .before .before in
+    let told = c .before in
     fails-at-test _ _ _ _ (c .fails-in .ensures) (wide-back w64 tt (sub-first told) ∙ first-away (told .before))
 
 returns : tie.Need-returns Inv-loop μ-loop
 returns c =
-    let start = c .before .before .before .before in
+    let start = c .before .before .before in
     let a = start .args in
-    scan-row (a .table) (a .t5) (a .cares .now) (a .values .now) (start .pre .0 .0) (start .pre .1) 1 0 (pow-pos (a .table .n))
+    scan-row (a .table) (a .t5) (a .cares .now) (a .values .now) (start .pre .1) 1 0 (pow-pos (a .table .n))
     record {
       start = omega arith;
       inside = omega arith;
@@ -86,7 +86,7 @@ returns c =
 
 loop-holds : tie.Need-loop-holds Inv-loop μ-loop
 loop-holds c =
-    let told = c .before .before .before .before in
+    let told = c .before .before .before in
     let room = told .before .args .distances .now in (
       omega arith,
       λ r l. let zero : r ≡ 0 = omega arith in rw zero (sym (first-fails (c .before .before)) ∙ c .before .if1 .left),
@@ -99,7 +99,7 @@ loop-holds c =
 
 -- the function's start, and the place of a pass, as the room is lent
 abbrev start : tie.After-search-block-arg Inv-loop μ-loop → tie.Start Inv-loop μ-loop
-start c = c .before .before .before .before .before .before .before .before
+start c = c .before .before .before .before .before .before .before
 
 abbrev place : tie.After-search-block-arg Inv-loop μ-loop → ℕ
 place c = c .before .before .loop .place
@@ -148,7 +148,7 @@ returns-2 c =
     let pre = start lent .pre in
     let a = start lent .args in
     let answer = sym (block-answer call) ∙ c .before .block .given .1 in
-    scan-row (a .table) (a .t5) (a .cares .now) (a .values .now) (pre .0 .0) (pre .1) (2 ^ suc (place lent)) _ (pow-mono (omega arith))
+    scan-row (a .table) (a .t5) (a .cares .now) (a .values .now) (pre .1) (2 ^ suc (place lent)) _ (pow-mono (omega arith))
     (block-row (a .t5 .a) (a .t5 .b) (a .cares .now) (a .values .now) (place lent) (room lent) (passed lent) _ answer)
 
 -- where nothing is found in the block, twice as many rows are passed
@@ -174,9 +174,9 @@ loop-again c =
 returns-3 : tie.Need-returns-3 Inv-loop μ-loop
 returns-3 c =
     let at-end = c .before .loop in
-    let start = c .before .before .before .before .before .before .before in
+    let start = c .before .before .before .before .before .before in
     let a = start .args in
-    scan-nowhere (a .table) (a .t5) (a .cares .now) (a .values .now) (start .pre .0 .0) (start .pre .1)
+    scan-nowhere (a .table) (a .t5) (a .cares .now) (a .values .now) (start .pre .1)
     (λ r l. at-end .inv .1 r (lt-of-lt-of-le l (pow-mono (c .loop-test .left))))
 
 pub first-failing-spec : {M : Type 1} → statement M
@@ -186,7 +186,6 @@ first-failing-spec =
     Inv-loop
     μ-loop
     sub-first
-    (λ c. search needs)
     cast-fails-in
     (λ c κs. search needs)
     returns

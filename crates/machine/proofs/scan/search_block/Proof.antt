@@ -80,14 +80,14 @@ sum-made c =
     ap (λ (z : ℤ). z +ℤ added (start c)) (toZ-ofZ (below-fits c) ∙ below-kept c) ∙ sym (doubled-high _ _ _ (c .before .before .loop .at))
 
 cast-fails-in : tie.Need-cast-fails-in Inv-loop μ-loop
-cast-fails-in c = wide-fits tt (add-distance (c .before))
+cast-fails-in c = wide-fits tt (add-distance c)
 
 -- what is tested is whether the row fails
 row-fails : (c : tie.After-fails-in Inv-loop μ-loop)
-    → let round = c .before .before in
+    → let round = c .before in
     c .fails-in .result ≡ failsAt (start round .args .cares .now) (start round .args .values .now) (made (start round)) (row round)
 row-fails c =
-    let round = c .before .before in
+    let round = c .before in
     fails-at-test _ _ _ _ (c .fails-in .ensures) (wide-back w64 tt (add-distance round) ∙ sum-made round)
 
 -- the contract's distances and search
@@ -103,7 +103,7 @@ search-is c e = ap lowestOf (sym e ∙ ap (search-by c) (made-is c))
 
 returns : tie.Need-returns Inv-loop μ-loop
 returns c =
-    let round = c .before .before .before in
+    let round = c .before .before in
     let a = start round .args in (
       search-is (start round)
           (first-at (failsAt (a .cares .now) (a .values .now) (made (start round))) (a .half) (a .half) (row round)
@@ -118,7 +118,7 @@ returns c =
 
 loop-again : tie.Need-loop-again Inv-loop μ-loop
 loop-again c =
-    let round = c .before .before .before in
+    let round = c .before .before in
     let at-head = round .before .before .loop in
     let a = start round .args in
     let passes = sym (row-fails (c .before)) ∙ c .if1 .left in (
@@ -150,7 +150,6 @@ search-block-spec =
     (λ c. search needs)
     (λ c. search needs)
     add-distance
-    (λ c. search needs)
     (λ c. search needs)
     (λ c. search needs)
     cast-fails-in

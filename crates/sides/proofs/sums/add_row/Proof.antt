@@ -10,7 +10,7 @@ use borrow.Author.Tests.{not-true, not-false}
 use Rattle.numbers.specs.Tests.{sameBool}
 use Rattle.numbers.specs.Tabulate.{tabulate}
 use Rattle.numbers.proofs.TabulateLaws.{tabulate-getD}
-use Rattle.table.specs.Table.{value}
+use Rattle.table.specs.Table.{bitAt}
 use Rattle.function.specs.Witness.{inputLevel, onlyIf}
 use Rattle.table.proofs.InputLaws.{same-bool-read}
 use Rattle.function.specs.Function.{level}
@@ -35,15 +35,15 @@ returns : tie.Need-returns
 returns c =
     let start = c .before in
     let a = start .args in
-    let of = sameBool (value (a .table) (a .row)) (a .side) in
+    let of = sameBool (bitAt (a .values .now) (a .row)) (a .side) in
     sums-kept (a .sums .now) of (a .row) (a .count) (start .pre .1) (λ i. rw (c .if1 .taken) (no-count of (a .row) i))
 
 returns-2 : tie.Need-returns-2
 returns-2 c =
     let start = c .before .before .before in
     let a = start .args in
-    let other = same-bool-read (a .side) (c .before .row-value .ensures) (not-true _ (c .if2 .taken)) in
-    sums-kept (a .sums .now) (sameBool (value (a .table) (a .row)) (a .side)) (a .row) (a .count) (start .pre .1) (λ i. rw other)
+    let other = same-bool-read (a .side) (c .before .row-bit .ensures) (not-true _ (c .if2 .taken)) in
+    sums-kept (a .sums .now) (sameBool (bitAt (a .values .now) (a .row)) (a .side)) (a .row) (a .count) (start .pre .1) (λ i. rw other)
 
 add-levels-requires : tie.Need-add-levels-requires
 add-levels-requires c κs =
@@ -54,7 +54,7 @@ returns-3 : tie.Need-returns-3
 returns-3 c =
     let valued = c .before .before .before in
     let a = valued .before .before .args in
-    let same = same-bool-read (a .side) (valued .row-value .ensures) (not-false _ (c .before .before .if2 .left)) in
+    let same = same-bool-read (a .side) (valued .row-bit .ensures) (not-false _ (c .before .before .if2 .left)) in
     c .add-levels .ensures ∙ ap (λ (of : Bool). sumsWith (a .sums .now) of (a .row) (a .count)) (sym same)
 
 pub add-row-spec : {M : Type 1} → statement M

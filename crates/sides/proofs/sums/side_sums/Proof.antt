@@ -37,27 +37,34 @@ row-added t side counts m sums e is =
     (λ i h. rw (add-one, sum-below-suc) (ap (λ (x : ℕ). x + term i) (is i h)))
 
 abbrev Inv-loop : tie.InvT-loop
-Inv-loop table side counts rows sums₀ row₀ sums row = (row ≤ rows) × (rows ≤ 256) × (sums ≡ tabulate 9 (sumTo table side counts row))
+Inv-loop side counts rows values sums₀ row₀ sums row =
+    (row ≤ rows) × (rows ≤ 256) × ((t : Table) → t .bytes ≡ values → sums ≡ tabulate 9 (sumTo t side counts row))
 
 abbrev μ-loop : tie.MeasureT-loop
-μ-loop table side counts rows sums₀ row₀ sums row = rows - row
+μ-loop side counts rows values sums₀ row₀ sums row = rows - row
 
 loop-holds : tie.Need-loop-holds Inv-loop μ-loop
 loop-holds c = (
   omega arith,
-  omega (arith, rows-le (c .before .pre .0)),
-  tabulate-getD _ 9 0 (replicate 9 0) refl (λ i h. getD-replicate 9 i 0 0 h ∙ sym (sum-below-zero _)),
+  omega (arith, rows-le (c .before .before .pre .0)),
+  λ t e. tabulate-getD _ 9 0 (replicate 9 0) refl (λ i h. getD-replicate 9 i 0 0 h ∙ sym (sum-below-zero _)),
 )
+
+-- the sums are those of the table
+sums-are : (c : tie.At-loop Inv-loop μ-loop)
+    → let a = c .before .before .before .args in
+    c .loop .sums ≡ tabulate 9 (sumTo (a .table) (a .side) (a .counts .now) (c .loop .row))
+sums-are c = c .loop .inv .2 (c .before .before .before .args .table) refl
 
 -- each sum is what the rows below add, and below 2^40
 sum-is : (c : tie.At-loop Inv-loop μ-loop) (i : ℕ) → i < 9
-    → let a = c .before .before .args in
+    → let a = c .before .before .before .args in
     getD (c .loop .sums) i 0 ≡ sumTo (a .table) (a .side) (a .counts .now) (c .loop .row) i
-sum-is c i h = ap (λ (l : List ℕ). getD l i 0) (c .loop .inv .2) ∙ getD-tabulate _ 9 i 0 h
+sum-is c i h = ap (λ (l : List ℕ). getD l i 0) (sums-are c) ∙ getD-tabulate _ 9 i 0 h
 
 sum-lt : (c : tie.In-loop Inv-loop μ-loop) (i : ℕ) → i < 9 → getD (c .before .loop .sums) i 0 < 2 ^ 40
 sum-lt c i h =
-    let start = c .before .before .before in
+    let start = c .before .before .before .before in
     let a = start .args in
     omega (
       arith,
@@ -67,20 +74,26 @@ sum-lt c i h =
 
 add-row-requires : tie.Need-add-row-requires Inv-loop μ-loop
 add-row-requires c κs =
-    let head = c .before .before .before in
-    (omega arith, ap length (head .loop .inv .2) ∙ length-tabulate _ 9, sum-lt (c .before .before))
+    let round = c .before .before .before in
+    (omega arith, ap length (sums-are (round .before)) ∙ length-tabulate _ 9, sum-lt round)
 
 loop-again : tie.Need-loop-again Inv-loop μ-loop
 loop-again c =
-    let head = c .before .before .before .before in
-    let a = head .before .before .args in
-    (omega arith, head .loop .inv .1, row-added (a .table) (a .side) (a .counts .now) (head .loop .row) (head .loop .sums) (c .add-row .ensures) (sum-is head))
+    let head = c .before .before .before .before .before in
+    let a = head .before .before .before .args in
+    (
+      omega arith,
+      head .loop .inv .1,
+      λ t e.
+          row-added t (a .side) (a .counts .now) (head .loop .row) (head .loop .sums) (rw e (c .add-row .ensures))
+          (λ i h. ap (λ (l : List ℕ). getD l i 0) (head .loop .inv .2 t e) ∙ getD-tabulate _ 9 i 0 h),
+    )
 
 returns : tie.Need-returns Inv-loop μ-loop
 returns c =
-    let a = c .before .before .before .args in
+    let a = c .before .before .before .before .args in
     let all : c .before .loop .row ≡ rows (a .table) = omega arith in
-    c .before .loop .inv .2
+    sums-are (c .before)
     ∙ tabulate-ext _ _ 9
     (λ i h. ap (λ (m : ℕ). sumTo (a .table) (a .side) (a .counts .now) m i) all ∙ sym (side-sum-terms (functionOf (a .table)) (a .side) (countOf (a .counts .now)) i))
 

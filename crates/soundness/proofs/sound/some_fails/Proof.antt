@@ -12,13 +12,11 @@ use Rattle.soundness.proofs.sound.some_fails.Tie as tie
 
 first-failing-requires : tie.Need-first-failing-requires
 first-failing-requires c κs =
-    let valued = c .before .before .before in
-    let cared = valued .before in
-    let start = cared .before in
+    let start = c .before .before .before .before .before in
     let n = start .args .table .n in
     let x = start .args .core in (
       (start .pre .0, in-range-search (x .k) n (x .v .a) (x .v .b) (start .pre .1) (start .pre .2)),
-      (refl, valued .row-values .ensures),
+      (refl, refl),
     )
 
 returns : tie.Need-returns
@@ -28,4 +26,4 @@ returns c =
 
 pub some-fails-spec : {M : Type 1} → statement M
 some-fails-spec =
-    tie.close (tie.spec (λ c κs. search needs) first-failing-requires (λ c κs. search needs) returns)
+    tie.close (tie.spec first-failing-requires (λ c κs. search needs) returns)

@@ -3,17 +3,13 @@
 -- left of the budget. Assumes nothing.
 use mathlib.Core.Path.{_≡_, refl, sym, _∙_, ap}
 use mathlib.Core.Logic.{⊎-elim}
-use mathlib.Core.Bool.{Bool, false}
-use mathlib.Core.List.{List}
 use Prim.Native.Nat.{ℕ, _+_, _-_, _≤_, _<_}
 use native.Mathlib.Omega.{arith}
-use lib.ListN.{getD}
 use borrow.Author.Needs.{needs}
 use borrow.Author.Tests.{eq-eqb, ne-eqb}
-use Rattle.numbers.proofs.TabulateLaws.{getD-tabulate}
 use Rattle.table.specs.declared.inputs.Lowest.{Lowest}
 use Rattle.table.specs.declared.inputs.Lowest.the-variants.{At}
-use Rattle.table.specs.Table.{value, functionOf}
+use Rattle.table.specs.Table.{functionOf}
 use Rattle.table.specs.Inputs.{lowestOf}
 use Rattle.table.proofs.TableLaws.{rows-le}
 use Rattle.function.specs.Failing.{failing}
@@ -42,11 +38,8 @@ abbrev μ-loop : tie.MeasureT-loop
 
 first-failing-requires : tie.Need-first-failing-requires Inv-loop μ-loop
 first-failing-requires c κs =
-    let listed = c .before .before .before .before in
-    let p = listed .before .before .pre in (
-      (p .0, unsettled-bounded (p .0) (p .1) (omega arith) (unsettled-start (p .1) (p .2)) .ranged),
-      (refl, listed .row-values .ensures),
-    )
+    let p = c .before .before .before .before .before .before .pre in
+    ((p .0, unsettled-bounded (p .0) (p .1) (omega arith) (unsettled-start (p .1) (p .2)) .ranged), (refl, refl))
 
 loop-holds : tie.Need-loop-holds Inv-loop μ-loop
 loop-holds c =
@@ -55,12 +48,9 @@ loop-holds c =
 
 -- ---- at the loop's head
 
--- where the rows were listed, and where the function began
-abbrev listed : tie.At-loop Inv-loop μ-loop → tie.After-row-values Inv-loop μ-loop
-listed c = c .before .before .before .before .before .before
-
+-- where the function began
 abbrev entry : tie.At-loop Inv-loop μ-loop → tie.Start Inv-loop μ-loop
-entry c = listed c .before .before
+entry c = c .before .before .before .before .before .before .before .before
 
 abbrev table : tie.At-loop Inv-loop μ-loop → Table
 table c = entry c .args .table
@@ -98,43 +88,37 @@ row-found c = sym (head c .loop .inv .search) ∙ c .before .next .given .1
 row-below : (c : tie.After-known-told Inv-loop μ-loop) → row c < 256
 row-below c = omega (arith, unsettled-row (head c .loop .inv .unsettled) (row-found c), rows-le (entry (head c) .pre .0))
 
--- `values` has its value
-row-value : (c : tie.After-known-told Inv-loop μ-loop) → getD (listed (head c) .row-values .result) (row c) false ≡ value (table (head c)) (row c)
-row-value c =
-    ap (λ (l : List Bool). getD l (row c) false) (listed (head c) .row-values .ensures)
-    ∙ getD-tabulate (value (table (head c))) 256 (row c) false (row-below c)
-
 -- ---- the correction
 
-array-read-corrected-by : tie.Need-array-read-corrected-by Inv-loop μ-loop
-array-read-corrected-by c = row-below (c .before)
+row-value-requires : tie.Need-row-value-requires Inv-loop μ-loop
+row-value-requires c κs = row-below (c .before)
 
 corrected-by-requires : tie.Need-corrected-by-requires Inv-loop μ-loop
-corrected-by-requires c κs = (row-below (c .before), bounded (head (c .before)) .ranged)
+corrected-by-requires c κs = (row-below (c .before .before), bounded (head (c .before .before)) .ranged)
 
 add-j : tie.Need-add-j Inv-loop μ-loop
-add-j c = omega (arith, bounded (head (c .before .before)) .capped)
+add-j c = omega (arith, bounded (head (c .before .before .before)) .capped)
 
 mul-j : tie.Need-mul-j Inv-loop μ-loop
-mul-j c = omega (arith, row-below (c .before .before))
+mul-j c = omega (arith, row-below (c .before .before .before))
 
 element-copy-out-j : tie.Need-element-copy-out-j Inv-loop μ-loop
-element-copy-out-j c = row-below (c .before .before)
+element-copy-out-j c = row-below (c .before .before .before)
 
 add-j-2 : tie.Need-add-j-2 Inv-loop μ-loop
-add-j-2 c = let at = c .before .before .before in omega (arith, bounded (head at) .count (row at))
+add-j-2 c = let at = c .before .before .before .before in omega (arith, bounded (head at) .count (row at))
 
 mul-j-2 : tie.Need-mul-j-2 Inv-loop μ-loop
-mul-j-2 c = omega (arith, row-below (c .before .before .before))
+mul-j-2 c = omega (arith, row-below (c .before .before .before .before))
 
 element-write-j : tie.Need-element-write-j Inv-loop μ-loop
-element-write-j c = row-below (c .before .before .before)
+element-write-j c = row-below (c .before .before .before .before)
 
 -- ---- what follows it
 
 -- the round's row and its correction, from there
 abbrev told : tie.After-same-vector Inv-loop μ-loop → tie.After-known-told Inv-loop μ-loop
-told c = c .before .before .before .before .before
+told c = c .before .before .before .before .before .before
 
 abbrev corrected : tie.After-same-vector Inv-loop μ-loop → tie.After-corrected-by Inv-loop μ-loop
 corrected c = c .before .before .before
@@ -145,7 +129,7 @@ returns-2 c =
     let at = told same in
     let more = at .before .before .before .loop-test .taken in
     c .with-stage2 .ensures
-    ∙ unsettled-looped (head at .loop .inv .unsettled) (row-found at) (row-value at) (corrected same .corrected-by .ensures) _ more
+    ∙ unsettled-looped (head at .loop .inv .unsettled) (row-found at) (corrected same .before .row-value .ensures) (corrected same .corrected-by .ensures) _ more
     (sym (same .same-vector .ensures) ∙ c .before .if1 .taken)
 
 -- past step 4 the state stands at the next step
@@ -157,7 +141,7 @@ unsettled-on c =
     let at = told same in
     let x = correctedTo (row at) (corrected same .corrected-by .result) (head at .loop .j) in
     let power = c .before .top-power .ensures in
-    unsettled-next (head at .loop .inv .unsettled) (row-found at) (row-value at) (corrected same .corrected-by .ensures)
+    unsettled-next (head at .loop .inv .unsettled) (row-found at) (corrected same .before .row-value .ensures) (corrected same .corrected-by .ensures)
     (sym (same .same-vector .ensures) ∙ c .before .before .if1 .left)
     (⊎-elim (λ w. w .2 ∙ sym (marked-power x (eq-eqb _ _ (sym power ∙ w .0 .taken))))
     (λ w. w .1 ∙ sym (marked-other x (ne-eqb _ _ (λ e. w .0 .left (power ∙ e)))))
@@ -169,8 +153,7 @@ first-failing-requires-2 c κs =
     let at = told (on .before .before .before) in
     let p = entry (head at) .pre in
     let few : state (head at) .k + (head at .loop .made + 1) ≤ cap = omega (arith, p .3, at .before .before .before .loop-test .taken) in
-    let rows = listed (head at) in
-    ((p .0, unsettled-bounded (p .0) (p .1) few (unsettled-on on) .ranged), (refl, rows .row-values .ensures))
+    ((p .0, unsettled-bounded (p .0) (p .1) few (unsettled-on on) .ranged), (refl, refl))
 
 add-made : tie.Need-add-made Inv-loop μ-loop
 add-made c =
@@ -199,14 +182,13 @@ plain-steps-spec =
     (tie.spec
     Inv-loop
     μ-loop
-    (λ c κs. search needs)
     first-failing-requires
     loop-holds
     (λ c. search needs)
     enum-told
     (λ c κs. search needs)
     returns
-    array-read-corrected-by
+    row-value-requires
     corrected-by-requires
     add-j
     mul-j

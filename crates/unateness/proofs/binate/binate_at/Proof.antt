@@ -20,22 +20,22 @@ use Rattle.unateness.proofs.binate.binate_at.Statement.{statement}
 use Rattle.unateness.proofs.binate.binate_at.Tie as tie
 
 abbrev Inv-loop : tie.InvT-loop
-Inv-loop trues falses words place rises₀ falls₀ at₀ rises falls at =
+Inv-loop trues falses words place lacking rises₀ falls₀ at₀ rises falls at =
     (at ≤ words)
     × ((sides : Bool → ℕ → Bool) → trues ≡ tabulate 4 (wordOf (sides true)) → falses ≡ tabulate 4 (wordOf (sides false))
     → (rises ≡ packed 64 (gathered (turned sides true place) at)) × (falls ≡ packed 64 (gathered (turned sides false place) at)))
 
 abbrev μ-loop : tie.MeasureT-loop
-μ-loop trues falses words place rises₀ falls₀ at₀ rises falls at = words - at
+μ-loop trues falses words place lacking rises₀ falls₀ at₀ rises falls at = words - at
 
 loop-holds : tie.Need-loop-holds Inv-loop μ-loop
-loop-holds c = (omega arith, λ sides e d. (gather-none (turned sides true (c .args .place)), gather-none (turned sides false (c .args .place))))
+loop-holds c = (omega arith, λ sides e d. (gather-none (turned sides true (c .before .args .place)), gather-none (turned sides false (c .before .args .place))))
 
 loop-again : tie.Need-loop-again Inv-loop μ-loop
 loop-again c =
     let call = c .before .before .before .before in
     let at-head = call .before .before .before .loop in
-    let place = call .before .before .before .before .args .place in (
+    let place = call .before .before .before .before .before .args .place in (
       omega arith,
       λ sides e d.
           let on = call .before .pairs-at .ensures (sides true) e in
@@ -51,7 +51,7 @@ loop-again c =
 -- both words are not 0 exactly if the place is binate
 found-both : (c : tie.After-loop Inv-loop μ-loop) (t : Table)
     → let at-end = c .before .loop in
-    let a = c .before .before .args in
+    let a = c .before .before .before .args in
     rows t ≤ 64 * a .words
     → a .place < t .n
     → a .trues .now ≡ sideWords t .trues
@@ -59,7 +59,7 @@ found-both : (c : tie.After-loop Inv-loop μ-loop) (t : Table)
     → (not (eqb (at-end .rises) 0) && not (eqb (at-end .falls) 0)) ≡ binateAt (functionOf t) (a .place)
 found-both c t h k e d =
     let at-end = c .before .loop in
-    let place = c .before .before .args .place in
+    let place = c .before .before .before .args .place in
     let all : rows t ≤ 64 * at-end .at = omega arith in
     let passed = at-end .inv .1 (onSide t) e d in
     ap₂ _&&_ (turn-found t true place k (at-end .at) all (passed .0)) (turn-found t false place k (at-end .at) all (passed .1))
@@ -83,6 +83,7 @@ binate-at-spec =
     (tie.spec
     Inv-loop
     μ-loop
+    (λ c κs. search needs)
     loop-holds
     (λ c κs. search needs)
     (λ c κs. search needs)

@@ -21,18 +21,20 @@ both own partner = record { own = own; partner = partner }
 
 shr-moved : tie.Need-shr-moved
 shr-moved c =
-    let place = c .before .before .before .args .place in
+    let place = c .before .before .args .place in
     rw (one-shifted place (omega arith)) (omega (arith, pow-mono {i = place} {j = 5} (omega arith)))
 
 returns : tie.Need-returns
 returns c f e =
-    let a = c .before .before .before .args in
+    let start = c .before .before in
+    let a = start .args in
     let place = a .place in
+    let lacking = start .pre .2 (omega arith) in
     let own = word-is f (a .at) (omega arith) e in
     ap₂ both
-    (ap₂ bitAnd own (c .rows-without .ensures) ∙ own-within f (a .at) place (omega arith))
-    (ap₂ (λ (x y : ℕ). bitAnd (x / 2 ^ y) (c .rows-without .result)) own (one-shifted place (omega arith))
-    ∙ ap (bitAnd (wordOf f (a .at) / 2 ^ 2 ^ place)) (c .rows-without .ensures)
+    (ap₂ bitAnd own lacking ∙ own-within f (a .at) place (omega arith))
+    (ap₂ (λ (x y : ℕ). bitAnd (x / 2 ^ y) (a .lacking)) own (one-shifted place (omega arith))
+    ∙ ap (bitAnd (wordOf f (a .at) / 2 ^ 2 ^ place)) lacking
     ∙ partner-within f (a .at) place (omega arith))
 
 returns-2 : tie.Need-returns-2
@@ -82,7 +84,6 @@ pairs-at-spec =
     (tie.spec
     (λ c. search needs)
     (λ c. search needs)
-    (λ c κs. search needs)
     (λ c. search needs)
     shr-moved
     returns

@@ -1,4 +1,4 @@
--- `words::rows_without` meets its contract: each word's bits compute, and the place that is none of the others is 5. Assumes nothing.
+-- `words::rows_without` meets its contract: each word's bits compute, and a place below 6 that is none of the others is 5. Assumes nothing.
 use mathlib.Core.Path.{_≡_}
 use Prim.Native.Nat.{ℕ, _+_, _≤_}
 use native.Mathlib.Omega.{arith}
@@ -13,7 +13,7 @@ above h e = omega (arith, e)
 -- the place that is none of the others
 last : tie.Need-returns-6
 unfolding packed
-last c =
+last c h =
     let none = c .match .rest in
     let from-3 = above (above (above (omega arith) (none .0 .0 .0 .0 .1)) (none .0 .0 .0 .1)) (none .0 .0 .1) in
     let from-5 = above (above from-3 (none .0 .1)) (none .1) in
@@ -24,9 +24,9 @@ unfolding packed
 rows-without-spec =
     tie.close
     (tie.spec
-    (λ c. rw (c .match .keys1))
-    (λ c. rw (c .match .keys2))
-    (λ c. rw (c .match .keys3))
-    (λ c. rw (c .match .keys4))
-    (λ c. rw (c .match .keys5))
+    (λ c h. rw (c .match .keys1))
+    (λ c h. rw (c .match .keys2))
+    (λ c h. rw (c .match .keys3))
+    (λ c h. rw (c .match .keys4))
+    (λ c h. rw (c .match .keys5))
     last)
