@@ -1,6 +1,6 @@
 -- What a test says, and the test of what holds: of two tests at once, of tests that agree, of equal integers, of a test at each number
 -- below a bound, and of a limit on the numbers of a list. Assumes nothing.
-use mathlib.Core.Path.{_≡_, refl, sym, _∙_, subst}
+use mathlib.Core.Path.{_≡_, refl, sym, _∙_, ap, subst}
 use mathlib.Core.Bool.{Bool, true, false, Bool·beq, not, _&&_, _||_}
 use mathlib.Core.Logic.{_↔_}
 use mathlib.Core.List.{List, [], _∷_}
@@ -8,12 +8,12 @@ use Prim.Native.Nat.{ℕ, zero, suc, _+_, _≤_, _<_}
 use native.Mathlib.Decide.{ℕ-discrete}
 use native.Mathlib.Numerals.{add-one}
 use native.Mathlib.Omega.{arith}
-use lib.Dec.{leb}
+use lib.Dec.{leb, eqb}
 use lib.ListN.{length, drop, getD, drop-of-length-le}
 use lib.Seq.{drop-cons}
 use lib.IntN.{ℤ}
 use lib.Signed.{leZ}
-use borrow.Author.Tests.{lt-leb, le-leb, leb-true}
+use borrow.Author.Tests.{lt-leb, le-leb, leb-true, eq-eqb, ne-eqb}
 use Rattle.numbers.specs.Tests.{sameBool, sameZ, allAtMost, allBelow}
 use Rattle.numbers.proofs.Int.{integers}
 
@@ -25,6 +25,11 @@ no-true e = let z : _≡_ {A = ℕ} 0 1 = cc in omega arith
 pub not-passed : (a : Bool) → (a ≡ true → ⊥) → a ≡ false
 not-passed true h = absurd (h refl)
 not-passed false h = refl
+
+-- a test that passes unless a number is 0
+pub unless-zero : (x : ℕ) (b : Bool) → (x ≡ 0 → b ≡ false) → (b ≡ false → x ≡ 0) → not (eqb x 0) ≡ b
+unless-zero x true fails none = ap not (ne-eqb x 0 (λ z. no-true (sym (fails z))))
+unless-zero x false fails none = ap not (eq-eqb x 0 (none refl))
 
 -- both tests pass: the first does
 pub and-left : (a b : Bool) → (a && b) ≡ true → a ≡ true

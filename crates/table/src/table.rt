@@ -130,9 +130,10 @@ pub fn stray_value(table: Table) -> bool
     requires { ⌜ (table .n ≤ 8) × (spareSet (table .n) (table .bytes) ≡ false) ⌝ }
     ensures { λ r. ⌜ r ≡ strayValue table ⌝ }
 {
+    let count = byte_count(table.n);
     let mut stray: u8 = 0;
     let mut at: usize = 0;
-    while at < 32 {
+    while at < count {
         stray = stray | (table.bytes[at] & !table.cares[at]);
         at = at + 1;
     }
@@ -144,14 +145,13 @@ fn nonzero_from(bytes: [u8; 32], from: usize) -> bool
     requires { ⌜ from ≤ 32 ⌝ }
     ensures { λ r. ⌜ r ≡ not (allAtMost 0 (drop from bytes)) ⌝ }
 {
+    let mut set: u8 = 0;
     let mut at = from;
     while at < 32 {
-        if bytes[at] != 0 {
-            return true;
-        }
+        set = set | bytes[at];
         at = at + 1;
     }
-    false
+    set != 0
 }
 
 // Whether a bit that is no row's is set, among values or care bits.
