@@ -1,7 +1,7 @@
 // The kinds of a table's inputs.
 use crate::refusal::Status;
 use crate::refusal::table_status;
-use table::inputs::all_kinds;
+use rowwise::inputs::all_kinds;
 use types::inputs::InputKind;
 use types::inputs::Place;
 use types::table::Table;

@@ -11,7 +11,7 @@ use native.Mathlib.Omega.{arith}
 use lib.Dec.{eqb}
 use lib.ListN.{getD}
 use Rattle.table.proofs.InputLaws.{lowest-some, lowest-none}
-use Rattle.table.specs.declared.inputs.Lowest.the-variants.{At, Nowhere}
+use Rattle.table.specs.declared.lowest.Lowest.the-variants.{At, Nowhere}
 use Rattle.table.specs.Table.{rows, value, functionOf}
 use Rattle.table.specs.Gate.{weightLimit, inRange}
 use Rattle.table.specs.Inputs.{lowestOf}

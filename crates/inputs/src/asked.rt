@@ -1,8 +1,8 @@
 // What is asked of a table's inputs: their kinds, or Chow's parameters.
 use crate::inputs::put_chow;
 use crate::inputs::put_kinds;
+use rowwise::inputs::all_kinds;
 use sides::chow::all_chow;
-use table::inputs::all_kinds;
 use types::table::Table;
 ghost use mathlib.Core.List.{[]};
 ghost use lib.ListN.{length};

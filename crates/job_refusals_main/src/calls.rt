@@ -6,7 +6,7 @@ use job::job::Job;
 use job::job::Started;
 use job::job::job_status;
 use papers::show;
-use table::witness::same_counts;
+use rowwise::witness::same_counts;
 use testing::compare::is_gate_of;
 use testing::compare::same_job;
 use testing::compare::same_table;

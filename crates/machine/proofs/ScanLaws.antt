@@ -18,7 +18,7 @@ use Rattle.numbers.specs.Tests.{firstFrom}
 use Rattle.numbers.specs.Tabulate.{Holds}
 use Rattle.numbers.proofs.FirstLaws.{IsFirst, first-some, first-none}
 use Rattle.types.specs.declared.table.Table.{Table}
-use Rattle.table.specs.declared.inputs.Lowest.the-variants.{At, Nowhere}
+use Rattle.table.specs.declared.lowest.Lowest.the-variants.{At, Nowhere}
 use Rattle.table.specs.Table.{bitAt, rows, value, cared, functionOf}
 use Rattle.function.specs.Gate.{distance}
 use Rattle.table.specs.Inputs.{lowestOf}

@@ -1,6 +1,6 @@
 // The search for the lowest failing row: the distances of the rows are made one from another, in the order of the rows, and the search
 // stops at the first that fails.
-use table::inputs::Lowest;
+use table::lowest::Lowest;
 use table::table::row_bit;
 use types::table::Table;
 use types::vector::Vector;

@@ -5,7 +5,7 @@ use job::job::Job;
 use papers::text::first;
 use papers::text::word;
 use records::read::Read;
-use table::witness::same_counts;
+use rowwise::witness::same_counts;
 use testing::compare::is_gate_of;
 use testing::compare::same_job;
 use testing::compare::same_table;

@@ -1,7 +1,7 @@
 // Row lists read.
 use cell::refusal::Status;
 use reading::number::read_number;
-use table::witness::COUNT_LIMIT;
+use rowwise::witness::COUNT_LIMIT;
 ghost use mathlib.Core.Path.{_≡_};
 ghost use Prim.Native.Nat.{_≤_, _<_};
 ghost use Rattle.cell.specs.Refusal.{refused};

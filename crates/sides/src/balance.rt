@@ -1,6 +1,6 @@
 // Whether a witness balances.
 use crate::sums::side_sums;
-use table::witness::counts_cared;
+use rowwise::witness::counts_cared;
 use types::table::Table;
 use types::witness::Witness;
 ghost use mathlib.Core.Path.{_≡_};

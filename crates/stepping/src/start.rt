@@ -1,5 +1,5 @@
 // The state that a table starts with.
-use table::inputs::Lowest;
+use table::lowest::Lowest;
 use table::table::row_cared;
 use table::table::row_count;
 use types::stage::Stage;

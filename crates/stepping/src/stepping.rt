@@ -9,7 +9,7 @@ use machine::power::top_power;
 use machine::scan::first_failing;
 use machine::vector::corrected_by;
 use machine::vector::same_vector;
-use table::inputs::Lowest;
+use table::lowest::Lowest;
 use table::table::row_value;
 use types::stage::Stage;
 use types::state::State;

@@ -5,7 +5,7 @@ use mathlib.Core.Option.{Option, some, none}
 use Prim.Native.Nat.{ℕ, _+_, _^_, _≤_, _<_}
 use native.Mathlib.Omega.{arith}
 use borrow.Author.Tests.{lt-ltb, le-ltb}
-use Rattle.table.specs.declared.inputs.Lowest.the-variants.{At, Nowhere}
+use Rattle.table.specs.declared.lowest.Lowest.the-variants.{At, Nowhere}
 use Rattle.numbers.specs.Tests.{sameBool, isSome}
 use Rattle.numbers.proofs.TestLaws.{same-bool-beq}
 use Rattle.types.specs.declared.table.Table.{Table}

@@ -11,8 +11,8 @@ use Rattle.types.specs.declared.table.Table.{Table}
 use Rattle.types.specs.declared.inputs.InputKind.{InputKind}
 use Rattle.types.specs.declared.inputs.InputKind.the-variants.{Idle, Rising, Falling, Binate}
 use Rattle.types.specs.declared.inputs.Place.{Place}
-use Rattle.table.specs.declared.inputs.Lowest.{Lowest}
-use Rattle.table.specs.declared.inputs.Lowest.the-variants.{At, Nowhere}
+use Rattle.table.specs.declared.lowest.Lowest.{Lowest}
+use Rattle.table.specs.declared.lowest.Lowest.the-variants.{At, Nowhere}
 use Rattle.table.specs.Table.{functionOf}
 use Rattle.function.specs.Turns.{firstTurn}
 

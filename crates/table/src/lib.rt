@@ -1,6 +1,4 @@
-// Truth tables, gates, witnesses and inputs, row by row. The functions here ask for at most eight inputs: the calls that
+// Truth tables by their bits, and what a search through their rows answers. The functions here ask for at most eight inputs: the calls that
 // take anything stand in the crates above.
-pub mod gate;
-pub mod inputs;
+pub mod lowest;
 pub mod table;
-pub mod witness;

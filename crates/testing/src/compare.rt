@@ -2,7 +2,7 @@
 use crate::stage::letter;
 use job::job::Job;
 use machine::vector::same_vector;
-use table::witness::same_counts;
+use rowwise::witness::same_counts;
 use types::gate::Gate;
 use types::state::State;
 use types::table::Table;

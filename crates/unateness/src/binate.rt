@@ -2,8 +2,8 @@
 use crate::words::pairs_at;
 use crate::words::rows_without;
 use crate::words::side_words;
-use table::inputs::Lowest;
-use table::inputs::first_turn;
+use rowwise::inputs::first_turn;
+use table::lowest::Lowest;
 use table::table::row_count;
 use types::table::Table;
 ghost use mathlib.Core.Path.{_≡_};

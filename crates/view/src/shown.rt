@@ -6,7 +6,7 @@ use job::job::Job;
 use job::job::job_status;
 use machine::scan::fails_by;
 use machine::vector::vector_gate;
-use table::gate::row_distance;
+use rowwise::gate::row_distance;
 use table::table::row_cared;
 use table::table::row_count;
 use table::table::row_value;

@@ -80,8 +80,7 @@ add-row-requires c κs =
 loop-again : tie.Need-loop-again Inv-loop μ-loop
 loop-again c =
     let head = c .before .before .before .before .before in
-    let a = head .before .before .before .args in
-    (
+    let a = head .before .before .before .args in (
       omega arith,
       head .loop .inv .1,
       λ t e.

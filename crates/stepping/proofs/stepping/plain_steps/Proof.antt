@@ -7,8 +7,8 @@ use Prim.Native.Nat.{ℕ, _+_, _-_, _≤_, _<_}
 use native.Mathlib.Omega.{arith}
 use borrow.Author.Needs.{needs}
 use borrow.Author.Tests.{eq-eqb, ne-eqb}
-use Rattle.table.specs.declared.inputs.Lowest.{Lowest}
-use Rattle.table.specs.declared.inputs.Lowest.the-variants.{At}
+use Rattle.table.specs.declared.lowest.Lowest.{Lowest}
+use Rattle.table.specs.declared.lowest.Lowest.the-variants.{At}
 use Rattle.table.specs.Table.{functionOf}
 use Rattle.table.specs.Inputs.{lowestOf}
 use Rattle.table.proofs.TableLaws.{rows-le}

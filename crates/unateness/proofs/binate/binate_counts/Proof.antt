@@ -8,7 +8,7 @@ use native.Mathlib.Omega.{arith}
 use borrow.Author.Needs.{needs}
 use Rattle.function.specs.Witness.{zeros}
 use Rattle.table.proofs.InputLaws.{lowest-some}
-use Rattle.table.specs.declared.inputs.Lowest.{Lowest}
+use Rattle.table.specs.declared.lowest.Lowest.{Lowest}
 use Rattle.table.specs.Inputs.{lowestOf}
 use Rattle.function.specs.Turns.{firstTurn}
 use Rattle.function.specs.Binate.{pairMore}
