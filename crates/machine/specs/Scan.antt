@@ -1,5 +1,5 @@
 -- The lists in which the search for the lowest failing row works: the care bits and the values of the rows, and the distances of the rows so
--- far, of which an input makes twice as many. For the inside of the machine alone. Definitions only. Assumes nothing.
+-- far, of which an input makes twice as many; and the bits of rows as a list, for a search by blocks. For the inside of the machine alone. Definitions only. Assumes nothing.
 use mathlib.Core.Bool.{Bool, cond, _&&_}
 use mathlib.Core.List.{List}
 use Prim.Native.Nat.{ℕ, _-_}

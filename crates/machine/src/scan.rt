@@ -35,7 +35,7 @@ fn store_byte(values: &mut [bool; 256], bytes: &[u8; 32], at: usize)
     }
 }
 
-// Returns the bits of the rows of the first `count` bytes. The other rows are false.
+// Returns the bits of the rows of the first `count` bytes, for a search by blocks. The other rows are false.
 pub fn byte_values(bytes: &[u8; 32], count: usize) -> [bool; 256]
     requires { ⌜ count ≤ 32 ⌝ }
     ensures { λ r. ⌜ r ≡ valuesBelow (8 * count) (now (bytes .entry)) ⌝ }

@@ -1,5 +1,5 @@
--- Laws of care bits: a table with every row cared for has exactly the bits of its rows, and a value bit on a row that is not cared for shows in
--- a byte. Assumes nothing.
+-- Laws of care bits: a table with every row cared for has exactly the bits of its rows, and no value bit stands on a row that is not cared for
+-- exactly if no byte has one. Assumes nothing.
 use mathlib.Core.Path.{_≡_, refl, sym, _∙_, ap, ap₂}
 use mathlib.Core.Bool.{Bool, true, false, not, _&&_, _||_}
 use mathlib.Core.List.{List}
@@ -8,6 +8,7 @@ use native.Mathlib.Decide.{decLe}
 use native.Mathlib.Omega.{arith}
 use lib.Bits.{bitAnd}
 use lib.ListN.{getD}
+use borrow.Author.Tests.{not-false}
 use Rattle.numbers.specs.Packed.{packed, bitIn}
 use Rattle.numbers.proofs.PackedLaws.{packed-ext, packed-digits, packed-and, packed-not, packed-none, packed-zero}
 use Rattle.numbers.proofs.TestLaws.{not-passed, all-below-at, all-below-from}
@@ -78,10 +79,6 @@ kept-not : (v c : Bool) → (v && not c) ≡ not (not v || c)
 kept-not true c = refl
 kept-not false c = refl
 
-not-false : (b : Bool) → not b ≡ false → b ≡ true
-not-false true e = refl
-not-false false e = sym e
-
 module _ (t : Table) (values : ByteArray (t .bytes)) (cares : ByteArray (t .cares)) where
   stray-bits : (i : ℕ) → i < 32 → strayByte t i ≡ packed 8 (λ j. not (kept-at t (8 * i + j)))
   stray-bits i l =
@@ -106,7 +103,7 @@ module _ (t : Table) (values : ByteArray (t .bytes)) (cares : ByteArray (t .care
     kept-here e r (yes past) = ap (λ (v : Bool). not v || cared t r) (spare-none (t .n) (t .bytes) h clear r past)
     kept-here e r (no before) = all-below-at (rows t) (kept-at t) (not-false _ e) r (omega arith)
 
-    -- so no byte has one
+    -- so no byte has a value bit on such a row
     pub none-stray : strayValue t ≡ false → (i : ℕ) → i < 32 → strayByte t i ≡ 0
     none-stray e i l =
         stray-bits i l ∙ packed-none 8 _ (λ j k. ap not (kept-here e (8 * i + j) (decLe (rows t) (8 * i + j))))

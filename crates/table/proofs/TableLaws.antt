@@ -2,11 +2,11 @@
 use mathlib.Core.Path.{_≡_}
 use mathlib.Core.Bool.{true, not}
 use mathlib.Core.List.{List}
-use Prim.Native.Nat.{ℕ, _+_, _/_, _^_, _≤_, _<_}
-use native.Mathlib.Nat.{div-lt-iff-lt-mul, le-div-iff-mul-le, lt-of-lt-of-le}
+use Prim.Native.Nat.{ℕ, _+_, _^_, _≤_, _<_}
+use native.Mathlib.Nat.{lt-of-lt-of-le}
 use native.Mathlib.Omega.{arith}
 use lib.ListN.{drop, getD}
-use lib.Pow.{pow-pos, pow-mono}
+use lib.Pow.{pow-mono}
 use borrow.Author.Tests.{lt-ltb, le-ltb}
 use Rattle.numbers.specs.Tests.{allAtMost}
 use Rattle.table.specs.Table.{rowsOf, byteCount, spareSet, functionOf}
@@ -41,14 +41,6 @@ partner-level place other r e = raised-level 1 place other r (omega arith)
 -- the function of a table of at most eight inputs fits the code's arrays
 pub table-fits : (t : Table) → t .n ≤ 8 → Fits (functionOf t)
 table-fits t h = record { leveled = omega arith; places = h; rows = rows-le h }
-
--- a shift that leaves no bits has passed all of them
-pub shift-none : (b k : ℕ) → b / 2 ^ k ≡ 0 → b < 2 ^ k
-shift-none b k e = omega (arith, div-lt-iff-lt-mul {x = b} {y = 1} (pow-pos k) .0 (omega arith))
-
--- one that leaves some has not
-pub shift-some : (b k : ℕ) → (b / 2 ^ k ≡ 0 → ⊥) → 2 ^ k ≤ b
-shift-some b k h = omega (arith, le-div-iff-mul-le {x = 1} {y = b} (pow-pos k) .0 (omega (arith, h)))
 
 -- the rows of three inputs and more fill a byte
 pub byte-filled : {n b : ℕ} → 3 ≤ n → b < 256 → b < 2 ^ rowsOf n

@@ -80,7 +80,7 @@ pub struct Pairs {
     pub partner: u64,
 }
 
-// Returns which of 64 rows lack the input of a place below 6.
+// Returns which of 64 rows lack the input of a place below 6. Of a higher place the answer is not used.
 pub fn rows_without(place: usize) -> u64
     ensures { λ r. ⌜ (place < 6 → r ≡ packed 64 (lacks place)) ⌝ }
 {
