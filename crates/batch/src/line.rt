@@ -16,7 +16,7 @@ use reporting::tally::{Tally, with_record};
 use stepping::decided::decided_by;
 
 // The length of a line, and how far the report is after it.
-#[derive(Drop)]
+#[derive(Clone, Copy)]
 pub struct Line {
     pub length: usize,
     pub next: Progress,

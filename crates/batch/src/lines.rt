@@ -11,7 +11,7 @@ use correction::steps::step_table;
 use reporting::line::LINE_ROOM;
 
 // How many lines were made, their length, and how far the report is after them.
-#[derive(Drop)]
+#[derive(Clone, Copy)]
 pub struct Lines {
     pub count: usize,
     pub length: usize,

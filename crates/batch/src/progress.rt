@@ -5,7 +5,7 @@ ghost use Rattle.batch.specs.Progress.{start, is_done};
 use reporting::tally::{Tally, no_tally};
 
 // What comes next: a record, or the last line after a refusal, or nothing.
-#[derive(Drop)]
+#[derive(Clone, Copy)]
 pub enum Phase {
     Records,
     Last,
@@ -13,7 +13,7 @@ pub enum Phase {
 }
 
 // The position reached in the input, and the records so far.
-#[derive(Drop)]
+#[derive(Clone, Copy)]
 pub struct Progress {
     pub at: usize,
     pub tally: Tally,

@@ -10,7 +10,7 @@ use types::kind::Kind;
 use types::stage::Stage;
 
 // The tables, the jobs by stage, the corrections made, the calls of carry-on, and the bytes that jobs were saved in.
-#[derive(Drop)]
+#[derive(Clone, Copy)]
 pub struct Tally {
     pub tables: u64,
     pub found: u64,

@@ -20,7 +20,7 @@ const SMALL_BUDGET: u32 = 64;
 const SAVE_ROOM: usize = 1300;
 
 // The stage and K of a job, the calls of carry-on that it took, and the bytes that it was saved in.
-#[derive(Drop)]
+#[derive(Clone, Copy)]
 pub struct Work {
     pub stage: Stage,
     pub k: u32,
@@ -29,7 +29,7 @@ pub struct Work {
 }
 
 // A job that was saved and read back, and the bytes that it took.
-#[derive(Drop)]
+#[derive(Clone, Copy)]
 struct Saved {
     job: Job,
     bytes: u64,

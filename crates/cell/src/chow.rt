@@ -8,7 +8,7 @@ use sides::chow::all_chow;
 use types::table::Table;
 
 // The q of all eight places, input i at place i − 1; all 0 where the table was refused.
-#[derive(Drop)]
+#[derive(Clone, Copy)]
 pub struct Chow {
     pub status: Status,
     pub q: [i32; 8],

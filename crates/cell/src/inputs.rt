@@ -9,7 +9,7 @@ use types::inputs::{InputKind, Place};
 use types::table::Table;
 
 // The kinds of all eight places, input i at place i − 1; all idle where the table was refused.
-#[derive(Drop)]
+#[derive(Clone, Copy)]
 pub struct Kinds {
     pub status: Status,
     pub places: [Place; 8],

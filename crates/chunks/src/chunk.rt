@@ -10,7 +10,7 @@ ghost use Rattle.table.specs.Table.{function_of};
 
 use correction::correction::correct;
 use lanes::sums::{same_sums, sums_of, vector_of};
-use machine::core::{Core, core_with};
+use machine::core_state::{Core, core_with};
 use machine::power::top_power;
 use search::keys::store_rows;
 use search::search::lowest;

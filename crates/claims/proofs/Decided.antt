@@ -46,7 +46,7 @@ use Rattle.outcome.specs.Outcome.{outcome_in, outcome, uncarried, outcome_writte
 use Rattle.handed.specs.Handed.{Handed, with_made, taken_with, taken_after, handed_back}
 use Rattle.arrays.specs.Arrays.{weights_of, fitted_gate, counts_of}
 use Rattle.findings.specs.Findings.{has_gate, has_witness, not_found, gate_found, counts_found}
-use Rattle.found.specs.Found.{job_in, job_for, find_gate, find_witness}
+use Rattle.found_within.specs.Found.{job_in, job_for, find_gate, find_witness}
 use Rattle.threshold.specs.Interface.{decide, carried_on}
 use Rattle.requests.specs.Taken.{table_read, job_read}
 use Rattle.requests.proofs.TakenLaws.{is_table, is_job}

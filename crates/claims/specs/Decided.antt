@@ -23,7 +23,7 @@ use Rattle.reporting.specs.Lines.{open_text, record_line, refusal_line, last_lin
 use Rattle.reporting.specs.Report.{input_most, no_tally, counted, report}
 use Rattle.arrays.specs.Arrays.{counts_of}
 use Rattle.handed.specs.Handed.{Handed}
-use Rattle.found.specs.Found.{find_gate, find_witness}
+use Rattle.found_within.specs.Found.{find_gate, find_witness}
 use Rattle.threshold.specs.Interface.{decide, carried_on}
 use Rattle.claims.specs.Jobs.{Taken}
 use Rattle.table.specs.Table.{rows, function_of}

@@ -6,7 +6,7 @@ use crate::partial::Rows;
 use crate::{outcome, partial};
 
 // How many partial tables a gate fits, and of how many the job found one exactly if so.
-#[derive(Drop)]
+#[derive(Clone, Copy)]
 pub struct Fitted {
     pub fit: u64,
     pub alike: u64,

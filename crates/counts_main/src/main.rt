@@ -2,7 +2,7 @@
 // job ends in. Prints a line for each n, of all tables and of partial ones. The gates of all tables are the published counts of threshold
 // functions; those of partial tables are compared, table by table, with what gates fit.
 mod fitting;
-mod gates;
+mod gate_counts;
 mod outcome;
 mod partial;
 mod sweep;

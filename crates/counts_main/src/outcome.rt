@@ -18,7 +18,7 @@ pub const LOOPED: usize = 2;
 pub const BINATE: usize = 3;
 
 // The stage's number, the corrections made, and 1 if no call refused the job and the checker said yes to what it shows, else 0.
-#[derive(Drop)]
+#[derive(Clone, Copy)]
 pub struct Outcome {
     pub stage: usize,
     pub corrections: u64,

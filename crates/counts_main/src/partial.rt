@@ -2,7 +2,7 @@
 use types::table::Table;
 
 // The rows as bits: those that are cared for, and the true ones among them.
-#[derive(Drop)]
+#[derive(Clone, Copy)]
 pub struct Rows {
     pub cares: u8,
     pub values: u8,

@@ -23,7 +23,7 @@ fn table_of(n: u8, number: u32, is_partial: bool) -> Table {
 }
 
 // How many tables have a job of each stage, by the stage's number, the corrections of those jobs, and how many tables were accepted.
-#[derive(Drop)]
+#[derive(Clone, Copy)]
 struct Tally {
     jobs: [u64; 4],
     corrections: [u64; 4],
@@ -67,10 +67,10 @@ pub fn partial_tables(n: u8, tables: u32)
     requires { tables ≤ 65536 }
 {
     show_tally(n, b" partial", tables, tally_of(n, tables, true));
-    let have = gates::tables(n);
+    let have = gate_counts::tables(n);
     let fitted = fitting::compare(n, tables, &have);
     show::word(b" by");
-    show::number(gates::count(&have));
+    show::number(gate_counts::count(&have));
     show::word(b" fit");
     show::number(fitted.fit);
     show::word(b" alike");

@@ -7,21 +7,21 @@ ghost use Rattle.heads.specs.Heads.{kind_byte, taken_by, kind_field};
 use types::kind::Kind;
 
 // The kinds that a caller takes: every kind, as a single record may have, or those of a table alone, as in a report.
-#[derive(Drop)]
+#[derive(Clone, Copy)]
 pub enum Takes {
     Every,
     Tables,
 }
 
 // What a kind byte says: the kind, and whether care bytes follow the value bytes of the table.
-#[derive(Drop)]
+#[derive(Clone, Copy)]
 pub struct KindByte {
     pub kind: Kind,
     pub cares: bool,
 }
 
 // What a kind byte says, and the position after it. The position is 0 beside a refusal.
-#[derive(Drop)]
+#[derive(Clone, Copy)]
 pub struct KindField {
     pub said: KindByte,
     pub next: usize,

@@ -11,7 +11,7 @@ use rowwise::inputs::all_kinds;
 use sides::chow::all_chow;
 use types::table::Table;
 
-#[derive(Drop)]
+#[derive(Clone, Copy)]
 pub enum Asked {
     Kinds,
     Chow,

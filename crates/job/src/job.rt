@@ -5,7 +5,7 @@ ghost use Rattle.refusal.specs.Refusal.{refused};
 ghost use Rattle.job.specs.Calls.{job_checked, fresh_job, started, decided_job, carry_on, carried};
 
 use correction::steps::step_table;
-use machine::core::core_of;
+use machine::core_state::core_of;
 use refusal::refusal::{Status, table_status};
 use soundness::sound::{CAP, is_sound};
 use stepping::decided::{CALL_BUDGET, decided_alone};
@@ -16,21 +16,21 @@ use types::state::State;
 use types::table::Table;
 
 // A table with the state of the machine on it.
-#[derive(Drop)]
+#[derive(Clone, Copy)]
 pub struct Job {
     pub table: Table,
     pub state: State,
 }
 
 // What making a job gives.
-#[derive(Drop)]
+#[derive(Clone, Copy)]
 pub struct Started {
     pub status: Status,
     pub job: Job,
 }
 
 // What carrying a job on gives: the job after the call, and the corrections made in it.
-#[derive(Drop)]
+#[derive(Clone, Copy)]
 pub struct Carried {
     pub status: Status,
     pub job: Job,

@@ -2,12 +2,12 @@
 // function, a second one where the job was still open, and last the numbers of verdicts and the sum of K over the gates; then the same of
 // the partial tables.
 mod call;
-mod function;
+mod paper_function;
 mod split;
 
 ghost use Rattle.std.specs.Prelude.{◌^◌, ◌≤◌, ◌<◌, length};
 
-use function::Outcome;
+use paper_function::Outcome;
 use papers::data::{FUNCTIONS, PARTIAL};
 use papers::line::line_end;
 use papers::show;
@@ -41,7 +41,7 @@ fn run(lines: &[u8])
     let mut at: usize = 0;
     while at < lines.len() {
         let end = line_end(lines, at);
-        let outcome = function::run(&lines[at..end]);
+        let outcome = paper_function::run(&lines[at..end]);
         gates = gates + has_letter(outcome, b'G');
         witnesses = witnesses + has_letter(outcome, b'N');
         given_up = given_up + has_letter(outcome, b'S');

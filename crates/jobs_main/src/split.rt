@@ -9,7 +9,7 @@ use types::table::Table;
 const CALLS: u32 = 400;
 
 // A job after some calls, and the corrections made in all of them.
-#[derive(Drop)]
+#[derive(Clone, Copy)]
 struct Calls {
     job: Job,
     made: u64,

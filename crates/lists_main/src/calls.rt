@@ -11,7 +11,7 @@ use writers::write::{Written, save};
 
 // The job after some calls, the sum of the budgets that were accepted and of the corrections that were reported, and the numbers that
 // each of the two calls gave.
-#[derive(Drop)]
+#[derive(Clone, Copy)]
 pub struct Calls {
     pub job: Job,
     pub budgets: u64,
@@ -21,7 +21,7 @@ pub struct Calls {
 }
 
 // What came of saving a job and reading it back: the number of a refusal or 0, the job, and whether a saved job was read as a job.
-#[derive(Drop)]
+#[derive(Clone, Copy)]
 struct Saved {
     number: u8,
     job: Job,

@@ -4,7 +4,7 @@ use Rattle.std.specs.Prelude.{List, ℕ}
 use Rattle.types.specs.declared.stage.Stage.{Stage}
 use Rattle.types.specs.declared.state.State.{State}
 use Rattle.types.specs.declared.vector.Vector.{Vector}
-use Rattle.machine.specs.declared.core.Core.{Core}
+use Rattle.machine.specs.declared.core_state.Core.{Core}
 
 -- a core with other vectors, in a stage
 abbrev pub core_with : Core → (v s : Vector) → Stage → Core

@@ -7,7 +7,7 @@ ghost use Rattle.numerals.specs.Numerals.{number_field};
 use refusal::refusal::Status;
 
 // A number and the position after it, or the number of a refusal.
-#[derive(Drop)]
+#[derive(Clone, Copy)]
 pub struct NumberField {
     pub status: Status,
     pub value: u32,

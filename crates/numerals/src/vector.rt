@@ -11,7 +11,7 @@ use refusal::refusal::Status;
 use types::vector::Vector;
 
 // A signed number and the position after it, or the number of a refusal.
-#[derive(Drop)]
+#[derive(Clone, Copy)]
 pub struct SignedField {
     pub status: Status,
     pub value: i32,
@@ -19,7 +19,7 @@ pub struct SignedField {
 }
 
 // A vector and the position after it, or the number of a refusal.
-#[derive(Drop)]
+#[derive(Clone, Copy)]
 pub struct VectorField {
     pub status: Status,
     pub v: Vector,

@@ -1,6 +1,6 @@
 // Runs the checked calls over the functions and prints a line for each, then their number and whether the places past n were
 // idle and 0 in every one; then the same over the partial tables.
-mod function;
+mod paper_function;
 
 use papers::data::{FUNCTIONS, PARTIAL};
 use papers::line::line_end;
@@ -13,7 +13,7 @@ fn run(lines: &[u8]) {
     let mut at: usize = 0;
     while at < lines.len() {
         let end = line_end(lines, at);
-        let idle = function::run(&lines[at..end]);
+        let idle = paper_function::run(&lines[at..end]);
         all_idle = all_idle && idle;
         functions = functions + 1;
         at = end + 1;

@@ -11,7 +11,7 @@ use heads::kind::{KindField, Takes, read_kind};
 use reading::tables::{TableField, table_after};
 use records::read::{Read, RecordField, body_at, end_at};
 
-#[derive(Drop)]
+#[derive(Clone, Copy)]
 pub struct Reader<'a> {
     pub src: &'a [u8],
     pub at: usize,

@@ -13,7 +13,7 @@ use types::kind::Kind;
 use types::table::Table;
 
 // The bits of rows, 0 past them, and the position after them, or the number of a refusal.
-#[derive(Drop)]
+#[derive(Clone, Copy)]
 pub struct BitsField {
     pub status: Status,
     pub bits: [u8; 32],
@@ -21,7 +21,7 @@ pub struct BitsField {
 }
 
 // A table and the position after it, or the number of a refusal.
-#[derive(Drop)]
+#[derive(Clone, Copy)]
 pub struct TableField {
     pub status: Status,
     pub table: Table,

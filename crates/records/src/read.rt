@@ -9,7 +9,7 @@ ghost use Rattle.records.specs.Calls.{no_job, as_read, record_field, body_by, en
 
 use heads::kind::KindField;
 use job::job::Job;
-use machine::core::{Core, state_of};
+use machine::core_state::{Core, state_of};
 use machine::power::top_power;
 use machine::vector::vector_gate;
 use numerals::number::read_number;
@@ -28,7 +28,7 @@ use types::vector::Vector;
 use types::witness::Witness;
 
 // A record's kind and parts. What the kind does not have is all 0.
-#[derive(Drop)]
+#[derive(Clone, Copy)]
 pub struct Read {
     pub kind: Kind,
     pub table: Table,
@@ -38,7 +38,7 @@ pub struct Read {
 }
 
 // A record and the position after it. The position is 0 beside a refusal.
-#[derive(Drop)]
+#[derive(Clone, Copy)]
 pub struct RecordField {
     pub read: Read,
     pub next: usize,

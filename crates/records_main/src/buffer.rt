@@ -11,7 +11,7 @@ pub const ROOM: usize = 1300;
 const BLANK: u8 = 0xA5;
 
 // A buffer after a call, the length written, and the number of a refusal or 0.
-#[derive(Drop)]
+#[derive(Clone, Copy)]
 pub struct Buffer {
     pub bytes: [u8; 1300],
     pub length: usize,

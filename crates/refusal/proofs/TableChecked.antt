@@ -1,7 +1,7 @@
 -- What the test of a table (`table_status`) says of every call's rules, which begin with the table's: callers cite these laws and not
 -- the rules' text. Assumes nothing.
 use mathlib.Core.Path.{◌≡◌, ◌∙◌, ap}
-use mathlib.Core.Bool.{Bool, true, false, not, ◌||◌, or_true}
+use mathlib.Core.Bool.{Bool, true, false, not, ◌||◌, or-true}
 use mathlib.Core.List.{List, [], ◌∷◌}
 use Prim.Native.Nat.{ℕ, ◌≤◌}
 use borrow.Author.Tests.{ltb-false, le-ltb}
@@ -45,7 +45,7 @@ unfolding stray_value
 whole_stray t whole =
     ap not
     (all_below_from (rows t) (kept_at t)
-    (λ r h. ap (λ (b : Bool). not (value t r) || b) (whole_at t whole r h) ∙ or_true (not (value t r))))
+    (λ r h. ap (λ (b : Bool). not (value t r) || b) (whole_at t whole r h) ∙ or-true (not (value t r))))
 
 -- so it keeps its rules where its values have no spare bit
 pub whole_keeps : (n : ℕ) (bits : List ℕ) → n ≤ 8 → spare_set n bits ≡ false → NoneBroken (table_rules (whole_table n bits) [])

@@ -8,7 +8,7 @@ use table::table::{spare_set, stray_value};
 use types::table::Table;
 
 // Yes or no, or the number of a refusal.
-#[derive(Drop)]
+#[derive(Clone, Copy)]
 pub enum Answer {
     Yes,
     No,
@@ -16,7 +16,7 @@ pub enum Answer {
 }
 
 // Done, with the values beside it, or the number of a refusal.
-#[derive(Drop)]
+#[derive(Clone, Copy)]
 pub enum Status {
     Done,
     Refused(u8),

@@ -1,6 +1,6 @@
 // Runs the six checked calls on arguments at the edge of each refusal, on several refusals at once, of which the soonest in the call's
 // order is given, and on extreme contents. Every row of the tables is cared for; `partial_main` has others. Prints what each call says.
-mod gates;
+mod gate_refusals;
 mod make;
 mod rows;
 mod show;
@@ -16,13 +16,13 @@ fn main() {
     rows::extremes();
     rows::table_value_order();
     rows::gate_value_order();
-    gates::weights();
-    gates::thresholds();
-    gates::places();
-    gates::full();
-    gates::inputs();
-    gates::check_gate_order();
-    gates::verdicts();
+    gate_refusals::weights();
+    gate_refusals::thresholds();
+    gate_refusals::places();
+    gate_refusals::full();
+    gate_refusals::inputs();
+    gate_refusals::check_gate_order();
+    gate_refusals::verdicts();
     witnesses::counts();
     witnesses::rows();
     witnesses::full();

@@ -5,7 +5,7 @@ ghost use Rattle.reporting.specs.Report.{no_tally, Within, counted};
 use types::stage::Stage;
 
 // Records read whole, the G, N and S lines, and the sum of K over the G lines.
-#[derive(Drop)]
+#[derive(Clone, Copy)]
 pub struct Tally {
     pub records: u64,
     pub gates: u64,

@@ -139,7 +139,7 @@ spare-cares-and-stray 1 05020817\n\
 spare-values-and-stray 1 05021807\n\
 stray 1 05020807\n\
 stray-and-more 1 05020807 1 010208\n\
-every_row_lem 1 0502060f\n\
+every-row 1 0502060f\n\
 every-row-of-n-0 1 05000101\n\
 third-no-cares 1 0102080502060e 1 050206\n\
 third-spare-cares 1 0102080502060e 1 0502061e 1 010102\n\

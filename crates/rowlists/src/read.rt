@@ -10,7 +10,7 @@ use refusal::refusal::Status;
 use rowwise::witness::COUNT_LIMIT;
 
 // A pair, whether both of its numbers are in range, and the position after it, or the number of a refusal.
-#[derive(Drop)]
+#[derive(Clone, Copy)]
 pub struct PairField {
     pub status: Status,
     pub row: u32,
@@ -20,7 +20,7 @@ pub struct PairField {
 }
 
 // The counts of a row list, whether it kept its ranges, and the position after it, or the number of a refusal.
-#[derive(Drop)]
+#[derive(Clone, Copy)]
 pub struct RowsField {
     pub status: Status,
     pub counts: [u32; 256],

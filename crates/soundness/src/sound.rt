@@ -11,7 +11,7 @@ ghost use Rattle.function.specs.Binate.{binate_place};
 ghost use Rattle.machine.specs.Core.{state_of};
 ghost use Rattle.state.specs.Sound.{cap, mark_for, is_traced, is_binate_with, sound_in, is_sound};
 
-use machine::core::Core;
+use machine::core_state::Core;
 use machine::power::top_power;
 use machine::vector::{same_vector, vector_within};
 use rowwise::witness::{counts_cared, counts_within, same_counts};

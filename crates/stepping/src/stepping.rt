@@ -11,7 +11,7 @@ ghost use Rattle.table.specs.Table.{function_of};
 
 use chunks::chunk::{CHUNK, chunk};
 use lanes::size::is_small;
-use machine::core::{Core, core_of, state_of};
+use machine::core_state::{Core, core_of, state_of};
 use machine::power::top_power;
 use machine::vector::{corrected_by, same_vector};
 use scan::scan::first_failing;
@@ -88,7 +88,7 @@ fn plain_steps(table: Table, state: State, budget: u32) -> State
 }
 
 // Where the fast form has come to: the core of the state, and how many of its steps are left to make.
-#[derive(Drop)]
+#[derive(Clone, Copy)]
 struct Way {
     core: Core,
     left: u32,

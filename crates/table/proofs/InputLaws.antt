@@ -1,6 +1,6 @@
 -- Laws of inputs: the rows in which an input turns the value, and its kind. Assumes nothing.
 use mathlib.Core.Path.{◌≡◌, refl, sym, ◌∙◌, ap}
-use mathlib.Core.Bool.{Bool, true, false, not, beq, ◌&&◌, and-true, and_false}
+use mathlib.Core.Bool.{Bool, true, false, not, beq, ◌&&◌, and-true, and-false}
 use mathlib.Core.Option.{Option, some, none}
 use Prim.Native.Nat.{ℕ, ◌+◌, ◌^◌, ◌≤◌, ◌<◌}
 use native.Mathlib.Omega.{arith}
@@ -45,8 +45,8 @@ module _ (t : Table) (to : Bool) (place : ℕ) where
       by true true true false p = sym (and-true p)
       by true true false true p = sym (and-true p)
       by true true false false p = refl
-      by true false v to p = sym (ap (λ (x : Bool). not (same_bool v to) && x) (and_false p) ∙ and_false (not (same_bool v to)))
-      by false b v to p = sym (ap (λ (x : Bool). not (same_bool v to) && x) (and_false p) ∙ and_false (not (same_bool v to)))
+      by true false v to p = sym (ap (λ (x : Bool). not (same_bool v to) && x) (and-false p) ∙ and-false (not (same_bool v to)))
+      by false b v to p = sym (ap (λ (x : Bool). not (same_bool v to) && x) (and-false p) ∙ and-false (not (same_bool v to)))
 
 -- ---- kinds
 

@@ -3,7 +3,7 @@
 use papers::show;
 
 // The numbers are 0 (accepted) and those of refusals, which are below 256.
-#[derive(Drop)]
+#[derive(Clone, Copy)]
 pub struct Tally {
     counts: [u64; 256],
     sum: u64,

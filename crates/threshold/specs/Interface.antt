@@ -1,7 +1,7 @@
 -- The calls of the C interface: what each comes to, over the bytes of a record (document 01, "Records"; document 02, §3), its numbers, and the
 -- room of the lent buffer. Each goes by what reading gives first, then `other_kind` for a kind that it does not take, then its own numbers. The
 -- calls from hex digits and words stand in `digits/specs/Digits.antt` and `words/specs/Words.antt`, those on numbers, on fresh jobs and on how
--- far a job has come in `requests/specs/Requests.antt`, those on what a job has found in `found/specs/Found.antt`. Definitions only. Assumes
+-- far a job has come in `requests/specs/Requests.antt`, those on what a job has found in `found_within/specs/Found.antt`. Definitions only. Assumes
 -- nothing.
 use Rattle.std.specs.Prelude.{List, ℕ}
 use Rattle.table.specs.Inputs.{kinds_of}

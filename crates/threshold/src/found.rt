@@ -2,9 +2,9 @@
 ghost use Rattle.std.specs.Prelude.{length};
 ghost use Rattle.handed.specs.Handed.{HandedOver};
 ghost use Rattle.findings.specs.Findings.{GateHanded};
-ghost use Rattle.found.specs.Found.{find_gate, find_witness};
+ghost use Rattle.found_within.specs.Found.{find_gate, find_witness};
 
-use found::found::{find_gate, find_witness};
+use found_within::found::{find_gate, find_witness};
 
 // Carries the fresh job of a kind 1 or 5 record's table, or the job of a kind 4 or 6 record, on by a budget. If it has found a gate, writes its
 // weights, from input 1 on, sets `threshold` to T and `made` to the corrections made, and returns n. Refusals: 1 to 9 and 16 as the record is

@@ -7,7 +7,7 @@ ghost use Rattle.function.specs.Vector.{component};
 ghost use Rattle.state.specs.Sound.{is_traced};
 ghost use Rattle.machine.specs.Core.{state_of};
 
-use machine::core::Core;
+use machine::core_state::Core;
 use sides::sums::side_sums;
 use types::table::Table;
 use types::vector::Vector;

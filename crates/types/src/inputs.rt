@@ -1,7 +1,7 @@
 // The kinds of inputs (document 01, "Kinds, Chow, report").
 
 // What making an input true does to the table: nothing, only false to true, only true to false, or both.
-#[derive(Drop)]
+#[derive(Clone, Copy)]
 pub enum InputKind {
     Idle,
     Rising,
@@ -10,7 +10,7 @@ pub enum InputKind {
 }
 
 // The kind of the input at one place.
-#[derive(Drop)]
+#[derive(Clone, Copy)]
 pub struct Place {
     pub kind: InputKind,
 }

@@ -47,7 +47,7 @@ fn word_at(bytes: &[u8; 32], rows: usize, at: usize) -> u64
 }
 
 // The rows that are cared for: the true ones, and the false ones.
-#[derive(Drop)]
+#[derive(Clone, Copy)]
 pub struct Sides {
     pub trues: [u64; 4],
     pub falses: [u64; 4],
@@ -75,7 +75,7 @@ pub fn side_words(table: Table) -> Sides
 }
 
 // The bits of 64 rows without an input, and of their partners with it. Rows that have the input are 0 in both.
-#[derive(Drop)]
+#[derive(Clone, Copy)]
 pub struct Pairs {
     pub own: u64,
     pub partner: u64,

@@ -19,7 +19,7 @@ use types::vector::Vector;
 use types::witness::Witness;
 
 // The three verdicts: a gate, a witness after which no gate exists, or given up so far; or the number of a refusal.
-#[derive(Drop)]
+#[derive(Clone, Copy)]
 pub enum Verdict {
     Gate,
     Witness,
@@ -28,7 +28,7 @@ pub enum Verdict {
 }
 
 // The verdict with its gate or witness; the other is all 0.
-#[derive(Drop)]
+#[derive(Clone, Copy)]
 pub struct Shown {
     pub verdict: Verdict,
     pub gate: Gate,

@@ -1,6 +1,6 @@
 -- Writing what was read gives the same bytes: each body, wherever it stands, and the whole. Assumes nothing.
 use mathlib.Core.Path.{◌≡◌, refl, sym, ◌∙◌, ap, ap₂, subst}
-use mathlib.Core.Bool.{Bool, true, false, not, cond, ◌&&◌, not_not}
+use mathlib.Core.Bool.{Bool, true, false, not, cond, ◌&&◌, not-not}
 use mathlib.Core.List.{List, [], ◌∷◌, ◌++◌}
 use Prim.Native.Nat.{ℕ, ◌+◌, ◌≤◌}
 use native.Mathlib.Omega.{arith}
@@ -157,7 +157,7 @@ body_written s bytes at b h plain e =
     let both = both_stand s at own last table.stands table.next read.stands read.next in
     let same : own ++ last ≡ body_bytes b.value = ap (λ (u : Table). table_bytes u ++ last) (sym read.same_table) ∙ sym (body_parts b.value) in
     let cares : not (is_whole (table_in b.value)) ≡ h.cares =
-    ap (λ (u : Table). not (is_whole u)) read.same_table ∙ ap not table.whole ∙ not_not h.cares in
+    ap (λ (u : Table). not (is_whole u)) read.same_table ∙ ap not table.whole ∙ not-not h.cares in
     record {
       same_head = ap₂ head read.same_family cares;
       stands = subst (Stands s at) same both.0;

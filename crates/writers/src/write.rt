@@ -20,7 +20,7 @@ use writing::length::table_length;
 use writing::put::{put_kind, put_table};
 
 // How many bytes were written, or the number of a refusal.
-#[derive(Drop)]
+#[derive(Clone, Copy)]
 pub enum Written {
     Bytes(usize),
     Refused(u8),

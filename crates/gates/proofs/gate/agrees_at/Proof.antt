@@ -1,6 +1,6 @@
 -- `gate::agrees_at` meets its contract: where gate and table differ, the row's care decides. Assumes nothing.
 use mathlib.Core.Path.{◌≡◌, sym, ◌∙◌, ap, ap₂}
-use mathlib.Core.Bool.{Bool, not, beq, ◌||◌, or_true, or_false}
+use mathlib.Core.Bool.{Bool, not, beq, ◌||◌, or-true, or-false}
 use borrow.Author.Rules.{rules}
 use Rattle.numbers.specs.Tests.{same_bool}
 use Rattle.numbers.proofs.TestLaws.{same_bool_beq}
@@ -23,13 +23,13 @@ tested c =
 returns : tie.Need-returns
 returns c =
     let a = c.before.before.before.args in
-    sym (ap (λ (b : Bool). not (cared a.table a.row) || b) (tested c.before ∙ c.if1.true) ∙ or_true (not (cared a.table a.row)))
+    sym (ap (λ (b : Bool). not (cared a.table a.row) || b) (tested c.before ∙ c.if1.true) ∙ or-true (not (cared a.table a.row)))
 
 returns-2 : tie.Need-returns-2
 returns-2 c =
     let a = c.before.before.before.before.args in
     ap not c.row-cared.ensures
-    ∙ sym (ap (λ (b : Bool). not (cared a.table a.row) || b) (tested c.before.before ∙ c.before.if1.false) ∙ or_false (not (cared a.table a.row)))
+    ∙ sym (ap (λ (b : Bool). not (cared a.table a.row) || b) (tested c.before.before ∙ c.before.if1.false) ∙ or-false (not (cared a.table a.row)))
 
 pub agrees-at-spec : {M : Type 1} → statement M
 agrees-at-spec = tie.close (tie.spec (λ c κs. search rules) (λ c κs. search rules) returns (λ c κs. search rules) returns-2)

@@ -1,7 +1,7 @@
 -- `gate::in_range` meets its contract. The loop's invariant: each weight below `place` is within its limit. The measure is the number of
 -- places left. Assumes nothing.
 use mathlib.Core.Path.{◌≡◌, sym, ◌∙◌, ap}
-use mathlib.Core.Bool.{Bool, true, false, and_false}
+use mathlib.Core.Bool.{Bool, true, false, and-false}
 use mathlib.Core.List.{List}
 use Prim.Native.Nat.{ℕ, ◌≤◌, ◌<◌, ◌-◌}
 use native.Mathlib.Omega.{arith}
@@ -30,7 +30,7 @@ module _ (limit n : ℕ) (ws : List ℤ) (th : ℤ) where
   -- and so is a weight beyond its limit
   out_by_weight : (place : ℕ) → place < 8 → fits place ≡ false → in_range limit n ws th ≡ false
   unfolding in_range
-  out_by_weight place h e = rw (all_below_fails 8 fits place h e) (and_false (within limit th))
+  out_by_weight place h e = rw (all_below_fails 8 fits place h e) (and-false (within limit th))
 
   -- T and all weights within their limits are in range
   in_by_all : within limit th ≡ true → all_below 8 fits ≡ true → in_range limit n ws th ≡ true

@@ -1,7 +1,7 @@
 -- `crate::number::read_number` meets its contract. The loop's invariant: the groups ahead, at the scale that is reached, complete the
 -- value so far to the number. The measure is what the scale lacks of its end. Assumes nothing.
 use mathlib.Core.Path.{sym, ◌∙◌, ap}
-use mathlib.Core.Bool.{and_false}
+use mathlib.Core.Bool.{and-false}
 use mathlib.Core.Logic.{⊎_elim}
 use Prim.Native.Nat.{ℕ, ◌+◌, ◌*◌, ◌-◌, ◌<◌}
 use native.Mathlib.Omega.{arith}
@@ -76,7 +76,7 @@ returns-3 c =
     sym
     (ap number_field
     (ahead_last in-loop.before.loop.invariant in-loop.loop-test.true at_byte.before.if1.false c.before.if2.true
-    (⊎_elim (λ w. simp w.1.left) (λ w. simp (ne_eqb _ _ w.left, and_false)) c.if3.branch)))
+    (⊎_elim (λ w. simp w.1.left) (λ w. simp (ne_eqb _ _ w.left, and-false)) c.if3.branch)))
 
 mul-value : tie.Need-overflow-mul-value invariant-loop decreases-loop
 mul-value c = omega (arith, next_small c)

@@ -1,6 +1,6 @@
 -- `crate::vector::read_signed` meets its contract: the number by `read_number`, and then its range. Assumes nothing.
 use mathlib.Core.Path.{◌≡◌, sym, ◌∙◌, ap}
-use mathlib.Core.Bool.{Bool, false, not, ◌&&◌, and_false}
+use mathlib.Core.Bool.{Bool, false, not, ◌&&◌, and-false}
 use mathlib.Core.Logic.{⊎_elim}
 use mathlib.Core.List.{List, [], ◌∷◌}
 use Prim.Native.Nat.{ℕ}
@@ -88,7 +88,7 @@ returns-2 c =
 kept : (c : tie.Joined1) → beyond c.before.before.before.before.before.before.args.strict c.before.Signed-of.result ≡ false
 kept c =
     ⊎_elim
-    (λ w. simp (← (is_within_is record { before = record { before = c.before; if1 = w.0 }; is_Within = w.1 }), w.2.left, and_false))
+    (λ w. simp (← (is_within_is record { before = record { before = c.before; if1 = w.0 }; is_Within = w.1 }), w.2.left, and-false))
     (λ w. simp w.left)
     c.if1.branch
 

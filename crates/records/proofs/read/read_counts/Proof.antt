@@ -14,7 +14,7 @@ use Rattle.refusal.specs.Refusal.{rule, answered, checked}
 use Rattle.refusal.proofs.RefusalLaws.{rule_broken, rule_kept}
 use Rattle.types.specs.declared.vector.Vector.{Vector}
 use Rattle.job.specs.declared.job.Job.{Job}
-use Rattle.machine.specs.declared.core.Core.{Core}
+use Rattle.machine.specs.declared.core_state.Core.{Core}
 use Rattle.machine.specs.Core.{state_of}
 use Rattle.state.specs.Sound as S
 use Rattle.job.specs.Sound.{is_sound}

@@ -2,7 +2,7 @@
 -- measure is what is left of the inputs 0 to n. Assumes nothing.
 use Rattle.core.specs.Prelude.{◌≡◌, ℕ, suc, ◌+◌, ◌-◌, ◌^◌, ◌<◌, ◌≤◌, Bool, true, false, ◌&&◌, eqb, List, get_or, pos, ◌+ℤ◌}
 use mathlib.Core.Path.{sym, ◌∙◌, ap, ap₂}
-use mathlib.Core.Bool.{and_false}
+use mathlib.Core.Bool.{and-false}
 use native.Mathlib.Omega.{arith}
 use mir.Syntax.{w32}
 use mir.Val.{Fits}
@@ -25,7 +25,7 @@ traced_by v s added taken i = same_z (component v i +ℤ pos (taken i)) (compone
 
 -- tests of which one fails
 fails_at_lem : (b : Bool) (n : ℕ) (test : ℕ → Bool) (i : ℕ) → i ≤ n → test i ≡ false → false ≡ (b && all_below (suc n) test)
-fails_at_lem b n test i h e = rw (all_below_fails (suc n) test i (omega arith) e) (sym (and_false b))
+fails_at_lem b n test i h e = rw (all_below_fails (suc n) test i (omega arith) e) (sym (and-false b))
 
 -- the sum of an input in an array of sums
 abbrev sum_in : List ℕ → ℕ → ℕ

@@ -1,0 +1,27 @@
+-- `paper_function::show_kinds` is safe and ends. Nothing has to hold from pass to pass; the measure is the number of places left.
+-- Assumes nothing.
+use Prim.Native.Nat.{◌-◌}
+use borrow.Author.Rules.{rules}
+use Rattle.papers_main.proofs.paper_function.show_kinds.Statement.{statement}
+use Rattle.papers_main.proofs.paper_function.show_kinds.Tie as tie
+
+abbrev invariant-loop : tie.invariant-loop
+invariant-loop n places place₀ place = Unit {0}
+
+abbrev decreases-loop : tie.decreases-loop
+decreases-loop n places place₀ place = 8 - place
+
+pub show-kinds-spec : {M : Type 1} → statement M
+show-kinds-spec =
+    tie.close
+    (tie.spec
+    invariant-loop
+    decreases-loop
+    (λ c. search rules)
+    (λ c. search rules)
+    (λ c κs. search rules)
+    (λ c. search rules)
+    (λ c. search rules)
+    (λ c. search rules)
+    (λ c. search rules)
+    (λ c. search rules))
