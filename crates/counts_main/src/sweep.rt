@@ -1,7 +1,7 @@
 // How the jobs of many tables of n inputs end.
 ghost use Rattle.std.specs.Prelude.{◌≤◌};
 
-use crate::{fitting, gates, outcome, partial};
+use crate::{fitting, gate_counts, outcome, partial};
 use cell::whole::whole_table;
 use papers::show;
 use types::table::Table;

@@ -6,5 +6,5 @@ mod checked;
 mod elsewhere;
 mod found;
 mod jobs;
-mod numerals;
+mod lent_numbers;
 mod tables;

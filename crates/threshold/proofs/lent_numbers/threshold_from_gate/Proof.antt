@@ -1,4 +1,4 @@
--- `numerals::threshold_from_gate` meets its contract: the record of the table and the numbers is written. Assumes nothing.
+-- `lent_numbers::threshold_from_gate` meets its contract: the record of the table and the numbers is written. Assumes nothing.
 use mathlib.Core.Path.{◌≡◌, ◌∙◌, ap}
 use lib.ListN.{length}
 use lib.IntN.{ℤ}
@@ -8,8 +8,8 @@ use borrow.Author.Rules.{rules}
 use Rattle.numbers.proofs.Int.{back}
 use Rattle.results.proofs.ResultLaws.{returned_as}
 use Rattle.requests.specs.Requests.{gate_record}
-use Rattle.threshold.proofs.numerals.threshold_from_gate.Statement.{statement}
-use Rattle.threshold.proofs.numerals.threshold_from_gate.Tie as tie
+use Rattle.threshold.proofs.lent_numbers.threshold_from_gate.Statement.{statement}
+use Rattle.threshold.proofs.lent_numbers.threshold_from_gate.Tie as tie
 
 returns : tie.Need-returns
 returns c =
