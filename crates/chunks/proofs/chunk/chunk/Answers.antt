@@ -110,8 +110,7 @@ clear-requires c =
     let a = c.args in
     let r = c.requires in
     let from = begun a.table a.core a.counts.now a.budget r.n_bound r.budget_bound.0 in
-    let pass = c.loop-made.invariant.passed (omega arith) in
-    (
+    let pass = c.loop-made.invariant.passed (omega arith) in (
       length-set c.loop-made.counts (c.loop-made.next / 2) _ ∙ (passed_bounded from pass).shaped.counts,
       omega (arith, c.row_count-rows.ensures, rows_le r.n_bound.0),
     )
@@ -124,17 +123,17 @@ lowest-next-requires-else-same_sums c =
     let from = begun a.table a.core a.counts.now a.budget r.n_bound r.budget_bound.0 in
     let pass = c.loop-made.invariant.passed (omega arith) in
     let on : Follows a.table (state_of a.core a.counts.now) (c.loop-made.made + 1) (state_of c.if-top_power-j.j c.if-top_power-j.counts) c.correct.new.sums c.if-top_power-j.s =
-        elim c.if-top_power-j.branch [
-          then-top_power-j y ↦
-            let cleared = y.clear.ensures ∙ ap (filled uncounted (one_more (c.loop-made.next / 2) c.loop-made.counts)) c.row_count-rows.ensures in
-            passed_marked from pass (omega arith) c.correct.ensures c.same_sums.ensures c.if-same_sums.false
-            (eq-eqb _ _ (sym c.top_power.ensures ∙ y.if-top_power-j.true))
-            (ap₂ state_of y.j-is (y.counts-is ∙ passed_cleared from pass (omega arith) cleared)) y.s-is
-        | else-top_power-j y ↦
-            passed_other from pass (omega arith) c.correct.ensures c.same_sums.ensures c.if-same_sums.false
-            (ne_eqb _ _ (λ e. y.if-top_power-j.false (c.top_power.ensures ∙ e)))
-            (ap₂ state_of y.j-is y.counts-is) y.s-is
-        ]
+    elim c.if-top_power-j.branch [
+      | then-top_power-j y ↦
+          let cleared = y.clear.ensures ∙ ap (filled uncounted (one_more (c.loop-made.next / 2) c.loop-made.counts)) c.row_count-rows.ensures in
+          passed_marked from pass (omega arith) c.correct.ensures c.same_sums.ensures c.if-same_sums.false
+          (eq-eqb _ _ (sym c.top_power.ensures ∙ y.if-top_power-j.true))
+          (ap₂ state_of y.j-is (y.counts-is ∙ passed_cleared from pass (omega arith) cleared)) y.s-is
+      | else-top_power-j y ↦
+          passed_other from pass (omega arith) c.correct.ensures c.same_sums.ensures c.if-same_sums.false
+          (ne_eqb _ _ (λ e. y.if-top_power-j.false (c.top_power.ensures ∙ e)))
+          (ap₂ state_of y.j-is y.counts-is) y.s-is
+    ]
     in
     record { n_bound = (from.inputs, c.store_rows.ensures.0, c.store_rows.ensures.1); narrow = follows_narrow from (omega arith) on }
 
@@ -149,24 +148,24 @@ loop-made-preserved c =
     let pass = c.loop-made.invariant.passed (omega arith) in
     let more : c.loop-made.made < a.budget = omega arith in
     elim c.if-same_sums.branch [
-      then-same_sums w ↦
-        passed_closed from pass (omega arith) c.correct.ensures c.same_sums.ensures more w.if-same_sums.true (ap₂ state_of w.j-is w.counts-is) w.s-is w.next-is
-    | else-same_sums w ↦
-        let on : Follows a.table (state_of a.core a.counts.now) (c.loop-made.made + 1) (state_of w.if-top_power-j.j w.if-top_power-j.counts) c.correct.new.sums w.if-top_power-j.s =
-        elim w.if-top_power-j.branch [
-          then-top_power-j y ↦
-            let cleared = y.clear.ensures ∙ ap (filled uncounted (one_more (c.loop-made.next / 2) c.loop-made.counts)) c.row_count-rows.ensures in
-            passed_marked from pass (omega arith) c.correct.ensures c.same_sums.ensures w.if-same_sums.false
-            (eq-eqb _ _ (sym w.top_power.ensures ∙ y.if-top_power-j.true))
-            (ap₂ state_of y.j-is (y.counts-is ∙ passed_cleared from pass (omega arith) cleared)) y.s-is
-        | else-top_power-j y ↦
-            passed_other from pass (omega arith) c.correct.ensures c.same_sums.ensures w.if-same_sums.false
-            (ne_eqb _ _ (λ e. y.if-top_power-j.false (w.top_power.ensures ∙ e)))
-            (ap₂ state_of y.j-is y.counts-is) y.s-is
-        ]
-        in
-        rw (w.counts-is, w.j-is, w.s-is, w.next-is)
-        (passed_going from (follows_passed from (omega arith) on w.lowest-next-else-same_sums.ensures))
+      | then-same_sums w ↦
+          passed_closed from pass (omega arith) c.correct.ensures c.same_sums.ensures more w.if-same_sums.true (ap₂ state_of w.j-is w.counts-is) w.s-is w.next-is
+      | else-same_sums w ↦
+          let on : Follows a.table (state_of a.core a.counts.now) (c.loop-made.made + 1) (state_of w.if-top_power-j.j w.if-top_power-j.counts) c.correct.new.sums w.if-top_power-j.s =
+          elim w.if-top_power-j.branch [
+            | then-top_power-j y ↦
+                let cleared = y.clear.ensures ∙ ap (filled uncounted (one_more (c.loop-made.next / 2) c.loop-made.counts)) c.row_count-rows.ensures in
+                passed_marked from pass (omega arith) c.correct.ensures c.same_sums.ensures w.if-same_sums.false
+                (eq-eqb _ _ (sym w.top_power.ensures ∙ y.if-top_power-j.true))
+                (ap₂ state_of y.j-is (y.counts-is ∙ passed_cleared from pass (omega arith) cleared)) y.s-is
+            | else-top_power-j y ↦
+                passed_other from pass (omega arith) c.correct.ensures c.same_sums.ensures w.if-same_sums.false
+                (ne_eqb _ _ (λ e. y.if-top_power-j.false (w.top_power.ensures ∙ e)))
+                (ap₂ state_of y.j-is y.counts-is) y.s-is
+          ]
+          in
+          rw (w.counts-is, w.j-is, w.s-is, w.next-is)
+          (passed_going from (follows_passed from (omega arith) on w.lowest-next-else-same_sums.ensures))
     ]
 
 -- ---- after the loop
@@ -179,10 +178,10 @@ returns c =
     let r = c.requires in
     let from = begun a.table a.core a.counts.now a.budget r.n_bound r.budget_bound.0 in
     let all : c.loop-made.next < 512 → a.budget ≤ c.loop-made.made =
-        λ h. elim c.loop-made-test.branch [
-          then-loop-made-test+else-next-lt512 w ↦ absurd (omega arith)
-        | else-loop-made-test w ↦ omega arith
-        ]
+    λ h. elim c.loop-made-test.branch [
+      | then-loop-made-test+else-next-lt512 w ↦ absurd (omega arith)
+      | else-loop-made-test w ↦ omega arith
+    ]
     in
     rw c.core_with.ensures
     (going_ends from c.loop-made.invariant c.stage_of.ensures all

@@ -42,8 +42,8 @@ returns-in_default c =
     let unate = lowest_none (binate_place f) (sym c.binate_place.ensures ∙ c.in_default.is) in
     c.start_state.ensures
     ∙ elim c.if-some_cared.branch [
-      then-some_cared w ↦ ap (start_state zeros) w.stage-is ∙ opened f unate _ refl (sym c.some_cared.ensures ∙ w.if-some_cared.true)
-    | else-some_cared w ↦ ap (start_state zeros) w.stage-is ∙ ended f unate _ refl (sym c.some_cared.ensures ∙ w.if-some_cared.false)
+      | then-some_cared w ↦ ap (start_state zeros) w.stage-is ∙ opened f unate _ refl (sym c.some_cared.ensures ∙ w.if-some_cared.true)
+      | else-some_cared w ↦ ap (start_state zeros) w.stage-is ∙ ended f unate _ refl (sym c.some_cared.ensures ∙ w.if-some_cared.false)
     ]
 
 -- the place that was found

@@ -37,8 +37,8 @@ part_of : (c : Joined-left-lt-CHUNK) → (0 < c.if-left-lt-CHUNK.part) × (c.if-
 part_of c =
     let some = (fast c.before).0 in
     elim c.if-left-lt-CHUNK.branch [
-      then-left-lt-CHUNK w ↦ (omega arith, omega arith, omega arith)
-    | else-left-lt-CHUNK w ↦ (omega arith, omega arith, omega arith)
+      | then-left-lt-CHUNK w ↦ (omega arith, omega arith, omega arith)
+      | else-left-lt-CHUNK w ↦ (omega arith, omega arith, omega arith)
     ]
 
 pub chunk-core-requires : goal.chunk-core-requires

@@ -96,8 +96,8 @@ unsettled_on c =
     unsettled_next inv.unsettled (sym inv.search ∙ c.in-At.is) c.row_value.ensures c.corrected_by-v.ensures
     (sym c.same_vector.ensures ∙ c.if-same_vector.false)
     (elim c.if-top_power-j.branch [
-      then-top_power-j w ↦ w.j-is ∙ sym (marked_power x (eq-eqb _ _ (sym power ∙ w.if-top_power-j.true)))
-    | else-top_power-j w ↦ w.j-is ∙ sym (marked_other x (ne_eqb _ _ (λ e. w.if-top_power-j.false (power ∙ e))))
+      | then-top_power-j w ↦ w.j-is ∙ sym (marked_power x (eq-eqb _ _ (sym power ∙ w.if-top_power-j.true)))
+      | else-top_power-j w ↦ w.j-is ∙ sym (marked_other x (ne_eqb _ _ (λ e. w.if-top_power-j.false (power ∙ e))))
     ])
 
 pub first_failing-next-requires-in-loop-made : goal.first_failing-next-requires-in-loop-made
