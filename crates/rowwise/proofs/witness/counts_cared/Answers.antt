@@ -45,10 +45,10 @@ returns c =
     sym (cared_all a.table a.counts.now (rw end at c.loop-row.invariant.1))
 
 pub offset_bounds-counts-row : goal.offset_bounds-counts-row
-offset_bounds-counts-row c = omega (arith, inside c)
+offset_bounds-counts-row c = omega (arith, inside (goal.at.offset_bounds-counts-row c).In-loop-row)
 
 pub bounds-counts-row : goal.bounds-counts-row
-bounds-counts-row c = inside c
+bounds-counts-row c = inside (goal.at.bounds-counts-row c).In-loop-row
 
 pub may_count-requires : goal.may_count-requires
-may_count-requires c = inside (goal.at.may_count-requires c).After-way_told-1
+may_count-requires c = inside (goal.at.may_count-requires c).In-loop-row

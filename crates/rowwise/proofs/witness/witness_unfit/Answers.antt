@@ -19,7 +19,7 @@ returns-then-not-counts_within c =
       ← c.counts_within.ensures,
       c.if-counts_within.false,
       ← c.counts_within-2.ensures,
-      not-true c.counts_within-2.result c.if-not-counts_within.true,
+      c.if-not-counts_within.true,
     )
 
 pub counts_within-requires-3 : goal.counts_within-requires-3
@@ -32,7 +32,7 @@ returns c =
       ← c.counts_within.ensures,
       c.if-counts_within.false,
       ← c.counts_within-2.ensures,
-      not-false c.counts_within-2.result c.if-not-counts_within.false,
+      c.if-not-counts_within.false,
       ← c.row_count.ensures,
     )
     (ap not c.counts_within-3.ensures)
