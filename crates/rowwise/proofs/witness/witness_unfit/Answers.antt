@@ -3,7 +3,6 @@ use mathlib.Core.Path.{ap}
 use mathlib.Core.Bool.{not}
 use native.Mathlib.Omega.{arith}
 use borrow.Author.Rules.{rules}
-use borrow.Author.Tests.{not-true, not-false}
 use Rattle.table.specs.Witness.{unfit}
 use Rattle.table.proofs.TableLaws.{rows_le}
 use Rattle.rowwise.proofs.witness.witness_unfit.Goals as goal
