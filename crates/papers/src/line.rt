@@ -3,8 +3,8 @@
 // stroke and its care bytes after them.
 ghost use Rattle.std.specs.Prelude.{◌≤◌, length};
 
+use crate::scan::find;
 use crate::text::{digit, number, word};
-use bytes::scan::find;
 use cell::whole::whole_table;
 use types::table::Table;
 

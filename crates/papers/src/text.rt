@@ -1,7 +1,7 @@
 // Words and numbers of a line of text. One space parts two words.
 ghost use Rattle.std.specs.Prelude.{◌≤◌, ◌<◌, length};
 
-use bytes::scan::find;
+use crate::scan::find;
 
 // Returns where word k starts, counted from 0; the line's length past the last word.
 fn word_start(line: &[u8], k: usize) -> usize

@@ -88,7 +88,7 @@ fn changed(tally: Tally, original: [u8; 1300], length: usize, at: usize) -> Tall
     let step = stride(length);
     let mut added: usize = 1;
     while added < 256 {
-        bytes[at] = std::num::wrapping_add_u8(original[at], added as u8);
+        bytes[at] = original[at].wrapping_add(added as u8);
         next = counted_first(next, &bytes, length);
         added = added + step;
     }
