@@ -38,14 +38,12 @@ fn tally_of(n: u8, tables: u32, is_partial: bool) -> Tally
     let mut jobs = [0u64; 4];
     let mut corrections = [0u64; 4];
     let mut accepted: u64 = 0;
-    let mut number: u32 = 0;
-    while number < tables {
+    for number in 0..tables {
         let ended = outcome::run(table_of(n, number, is_partial));
         let stage = ended.stage;
         jobs[stage] = jobs[stage] + 1;
         corrections[stage] = corrections[stage] + ended.corrections;
         accepted = accepted + ended.accepted;
-        number = number + 1;
     }
     Tally {
         jobs,

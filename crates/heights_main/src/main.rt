@@ -22,11 +22,9 @@ fn begin_line(rt: &impl Print, row: usize) -> io::Result<()> {
 
 // Prints the sixteen lines. A line feed stands before each.
 fn print_lines(rt: &impl Print, heights: [u8; 256]) -> io::Result<()> {
-    let mut row: usize = 0;
-    while row < 256 {
+    for (row, height) in heights.iter().enumerate() {
         begin_line(rt, row)?;
-        entry(rt, heights[row] as u64)?;
-        row = row + 1;
+        entry(rt, *height as u64)?;
     }
     Ok(())
 }

@@ -76,22 +76,18 @@ fn vectors(rt: &impl Print, v: Vector, s: Vector, n: usize) -> io::Result<()> {
 
 // Writes the first n weights and b.
 fn vector(rt: &impl Print, v: Vector, n: usize) -> io::Result<()> {
-    let mut place: usize = 0;
-    while place < 8 && place < n {
-        show::signed(rt, v.a[place])?;
-        place = place + 1;
+    for weight in v.a.iter().take(n) {
+        show::signed(rt, *weight)?;
     }
     show::signed(rt, v.b)
 }
 
 // Writes the counts above 0, each with its row.
 fn pairs(rt: &impl Print, counts: [u32; 256]) -> io::Result<()> {
-    let mut row: usize = 0;
-    while row < 256 {
-        if counts[row] != 0 {
-            show::pair(rt, row as u64, counts[row] as u64)?;
+    for (row, count) in counts.iter().enumerate() {
+        if *count != 0 {
+            show::pair(rt, row as u64, *count as u64)?;
         }
-        row = row + 1;
     }
     Ok(())
 }

@@ -67,10 +67,8 @@ fn show_gate(rt: &impl Print, table: Table, k: u64, gate: Gate) -> io::Result<()
 
 // Prints the weights of the first n places.
 fn show_weights(rt: &impl Print, weights: [i32; 8], n: usize) -> io::Result<()> {
-    let mut place: usize = 0;
-    while place < 8 && place < n {
-        show::signed(rt, weights[place])?;
-        place = place + 1;
+    for weight in weights.iter().take(n) {
+        show::signed(rt, *weight)?;
     }
     Ok(())
 }
@@ -86,13 +84,10 @@ fn show_witness(rt: &impl Print, table: Table, k: u64, witness: Witness) -> io::
 
 // Prints the counts above 0, each with its row, rows rising.
 fn show_counts(rt: &impl Print, counts: [u32; 256]) -> io::Result<()> {
-    let mut row: usize = 0;
-    while row < 256 {
-        let count = counts[row];
-        if 0 < count {
-            show::pair(rt, row as u64, count as u64)?;
+    for (row, count) in counts.iter().enumerate() {
+        if 0 < *count {
+            show::pair(rt, row as u64, *count as u64)?;
         }
-        row = row + 1;
     }
     Ok(())
 }
@@ -125,10 +120,8 @@ fn count_yes(answer: Answer) -> u64
 // Returns the number of rows that fail in the job.
 fn failing_rows(job: Job) -> u64 {
     let mut failing: u64 = 0;
-    let mut row: usize = 0;
-    while row < 256 {
+    for row in 0..256 {
         failing = failing + count_yes(row_fails(job, row));
-        row = row + 1;
     }
     failing
 }

@@ -63,12 +63,10 @@ fn call(calls: Calls, pick: u64, amount: u64, line: &[u8]) -> Calls {
 fn calls_on(job: Job, line: &[u8]) -> Calls {
     let mut calls = calls::none(job);
     let mut state = line.len() as u64;
-    let mut made: u32 = 0;
-    while made < CALLS {
+    for _ in 0..CALLS {
         let second = after(state);
         state = after(second);
         calls = call(calls, second / 65_536 % 32, state / 64, line);
-        made = made + 1;
     }
     calls
 }

@@ -60,47 +60,40 @@ fn run_inputs(rt: &impl Print, table: Table) -> io::Result<bool> {
 
 // Prints the q of the first n places.
 fn show_q(rt: &impl Print, q: [i32; 8], n: usize) -> io::Result<()> {
-    let mut place: usize = 0;
-    while place < 8 && place < n {
-        show::signed(rt, q[place])?;
-        place = place + 1;
+    for parameter in q.iter().take(n) {
+        show::signed(rt, *parameter)?;
     }
     Ok(())
 }
 
 // Prints the kinds of the first n places.
 fn show_kinds(rt: &impl Print, places: [Place; 8], n: usize) -> io::Result<()> {
-    let mut place: usize = 0;
-    while place < 8 && place < n {
-        let at = places[place];
-        let kind = at.kind;
-        show::kind(rt, kind)?;
-        place = place + 1;
+    for place in places.iter().take(n) {
+        show::kind(rt, place.kind)?;
     }
     Ok(())
 }
 
 // Whether the places from n on are idle and 0.
 fn past_is_idle(q: [i32; 8], places: [Place; 8], n: usize) -> bool {
-    let mut place = n;
-    while place < 8 {
+    for place in n..8 {
         let at = places[place];
         let kind = at.kind;
         if q[place] != 0 || show::letter(kind) != b'i' {
             return false;
         }
-        place = place + 1;
     }
     true
 }
 
 // Returns the first row on which the table and the gate do not both say yes or both say no: the number of rows, where they agree on all.
 fn agreeing_rows(table: Table, gate: Gate) -> u64 {
-    let mut row: usize = 0;
-    while row < 256 && agree(table_value(table, row), gate_value(gate, row)) {
-        row = row + 1;
+    for row in 0..256 {
+        if !agree(table_value(table, row), gate_value(gate, row)) {
+            return row as u64;
+        }
     }
-    row as u64
+    256
 }
 
 // Whether both are yes or both no.
@@ -132,10 +125,8 @@ fn turned_at_0(gate: Gate) -> Gate {
 // Returns the gate of n inputs whose T and weights the words are.
 fn gate_of(n: u8, numbers: &[u8]) -> Gate {
     let mut weights = [0i32; 8];
-    let mut place: usize = 0;
-    while place < 8 {
+    for place in 0..8 {
         weights[place] = signed(word(numbers, place + 1));
-        place = place + 1;
     }
     Gate {
         n,
@@ -148,11 +139,13 @@ fn gate_of(n: u8, numbers: &[u8]) -> Gate {
 fn witness_of(rows: &[u8], once: u32) -> Witness {
     let mut counts = [0u32; 256];
     let mut count = once;
-    let mut k: usize = 0;
-    while k < 8 && word(rows, k).len() > 0 {
-        counts[number(word(rows, k)) as usize % 256] = count;
+    for k in 0..8 {
+        let row = word(rows, k);
+        if row.is_empty() {
+            break;
+        }
+        counts[number(row) as usize % 256] = count;
         count = 1;
-        k = k + 1;
     }
     Witness { counts }
 }

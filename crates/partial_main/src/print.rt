@@ -14,22 +14,16 @@ pub fn status(rt: &impl Print, status: Status) -> io::Result<()> {
 
 // Writes the letters of all eight kinds.
 pub fn kinds(rt: &impl Print, places: [Place; 8]) -> io::Result<()> {
-    let mut place: usize = 0;
-    while place < 8 {
-        let at = places[place];
-        let kind = at.kind;
-        show::kind(rt, kind)?;
-        place = place + 1;
+    for place in &places {
+        show::kind(rt, place.kind)?;
     }
     Ok(())
 }
 
 // Writes all eight numbers.
 pub fn numbers(rt: &impl Print, q: [i32; 8]) -> io::Result<()> {
-    let mut place: usize = 0;
-    while place < 8 {
-        show::signed(rt, q[place])?;
-        place = place + 1;
+    for parameter in &q {
+        show::signed(rt, *parameter)?;
     }
     Ok(())
 }

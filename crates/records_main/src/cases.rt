@@ -21,11 +21,8 @@ fn hex_digit(value: u8) -> u8 {
 
 // Writes bytes in base sixteen.
 fn hex(rt: &impl Print, bytes: &[u8]) -> io::Result<()> {
-    let mut at: usize = 0;
-    while at < bytes.len() {
-        let byte = bytes[at];
-        show::word(rt, &[hex_digit(byte / 16), hex_digit(byte)])?;
-        at = at + 1;
+    for byte in bytes {
+        show::word(rt, &[hex_digit(*byte / 16), hex_digit(*byte)])?;
     }
     Ok(())
 }
@@ -91,13 +88,12 @@ fn show_reading(rt: &impl Print, string: &[u8; 64], length: usize) -> io::Result
 pub fn string(rt: &impl Print, line: &[u8]) -> io::Result<()> {
     let digits = word(line, 1);
     let mut bytes = [0u8; 64];
-    let mut at: usize = 0;
-    while at < 128 && at < digits.len() {
+    let end = digits.len().min(128);
+    for at in 0..end {
         bytes[at / 2] = bytes[at / 2] << 4 | digit(digits[at]);
-        at = at + 1;
     }
     show::word(rt, line)?;
-    show_reading(rt, &bytes, at / 2)
+    show_reading(rt, &bytes, end / 2)
 }
 
 // Whether writing a record into a long buffer and into none left what it must.

@@ -108,14 +108,10 @@ fn show_chow(rt: &impl Print, table: Table) -> io::Result<()> {
 }
 
 fn all_idle(places: [Place; 8]) -> bool {
-    let mut at: usize = 0;
-    while at < 8 {
-        let place = places[at];
-        let kind = place.kind;
-        if !is_idle(kind) {
+    for place in &places {
+        if !is_idle(place.kind) {
             return false;
         }
-        at = at + 1;
     }
     true
 }
@@ -130,12 +126,10 @@ fn is_idle(kind: InputKind) -> bool {
 }
 
 fn all_0(q: [i32; 8]) -> bool {
-    let mut at: usize = 0;
-    while at < 8 {
-        if q[at] != 0 {
+    for parameter in &q {
+        if *parameter != 0 {
             return false;
         }
-        at = at + 1;
     }
     true
 }

@@ -38,10 +38,8 @@ fn put_bytes(out: &mut [u8; 65600], at: usize, digits: &[u8]) -> usize {
 // Puts bytes in base sixteen a number of times.
 fn put_part(out: &mut [u8; 65600], at: usize, times: u16, digits: &[u8]) -> usize {
     let mut next = at;
-    let mut left = times;
-    while 0 < left {
+    for _ in 0..times {
         next = put_bytes(out, next, digits);
-        left = left - 1;
     }
     next
 }

@@ -45,12 +45,10 @@ pub fn print(rt: &impl Print, name: &[u8], tally: Tally) -> io::Result<()> {
 
 // Writes the counts above 0, each with its number.
 fn pairs(rt: &impl Print, counts: [u64; 256]) -> io::Result<()> {
-    let mut number: usize = 0;
-    while number < 256 {
-        if 0 < counts[number] {
-            show::pair(rt, number as u64, counts[number])?;
+    for (number, count) in counts.iter().enumerate() {
+        if 0 < *count {
+            show::pair(rt, number as u64, *count)?;
         }
-        number = number + 1;
     }
     Ok(())
 }
