@@ -14,7 +14,7 @@ pub fn rows_of(number: u32) -> Rows {
     let mut cares: u8 = 0;
     let mut values: u8 = 0;
     let mut rest = number;
-    for row in 0..8 {
+    for row in 0..8u8 {
         let bit = 1u8 << row;
         if rest % 3 != 0 {
             cares = cares | bit;

@@ -2,4 +2,4 @@ use Rattle.std.proofs.Common.{◌-◌, length}
 use Rattle.partial_main.proofs.run.Given as goal
 
 abbrev pub decreases-loop-at : goal.decreases-loop-at
-decreases-loop-at l = length l.lines - l.at
+decreases-loop-at g l = length l.lines - l.at
