@@ -16,8 +16,7 @@ use Rattle.numbers.proofs.PackedLaws.{or_none}
 use Rattle.table.specs.Table.{bit_at}
 use Rattle.table.proofs.TableLaws.{bytes_le}
 use Rattle.table.proofs.RowLaws.{every_bit}
-use Rattle.table.proofs.table.some_free.Statement.{statement}
-use Rattle.table.proofs.table.some_free.Tie as tie
+use Rattle.table.proofs.table.some_free.Goals as goal
 
 -- the rows of a full byte are cared for
 full_rows : (cares : List ℕ) (at row : ℕ) → get_or cares at 0 ≡ 255 → 8 * at ≤ row → row < 8 * at + 8 → bit_at cares row ≡ true
@@ -32,31 +31,19 @@ more : (cares : List ℕ) (at row : ℕ) → ((q : ℕ) → q < 8 * at → bit_a
 more cares at row passed full below (yes from) = full_rows cares at row full from below
 more cares at row passed full below (no before) = passed row (omega arith)
 
-abbrev invariant-loop : tie.invariant-loop
-invariant-loop table count free₀ at₀ free at = (at ≤ count) × (count ≤ 32) × (free ≡ 0 → (row : ℕ) → row < 8 * at → bit_at table.cares row ≡ true)
+pub loop-at-init : goal.loop-at-init
+loop-at-init c = (omega arith, omega (arith, c.byte_count-count.ensures, bytes_le c.requires), λ e row l. absurd (omega arith))
 
-abbrev decreases-loop : tie.decreases-loop
-decreases-loop table count free₀ at₀ free at = count - at
-
-loop-holds : tie.Need-loop-init invariant-loop decreases-loop
-loop-holds c = (omega arith, omega (arith, c.byte-count.ensures, bytes_le c.before.requires), λ e row l. absurd (omega arith))
-
-loop-again : tie.Need-loop-preserved invariant-loop decreases-loop
-loop-again c =
-    let head = c.before.before in
-    let cares = head.before.before.args.t1.cares in
-    let byte : Fits w8 (get_or cares head.loop.at 0) = search rules in (
+pub loop-at-preserved : goal.loop-at-preserved
+loop-at-preserved c =
+    let cares = c.args.table.cares in
+    let byte : Fits w8 (get_or cares c.loop-at.at 0) = search rules in (
       omega arith,
-      head.loop.invariant.1,
+      c.loop-at.invariant.1,
       λ e row l.
-          let none = or_none head.loop.free (2 ^ 8 - 1 - get_or cares head.loop.at 0) e in
-          more cares head.loop.at row (head.loop.invariant.2 none.0) (omega (arith, none.1, byte.fits)) (omega arith) (dec_le (8 * head.loop.at) row),
+          let none = or_none c.loop-at.free (2 ^ 8 - 1 - get_or cares c.loop-at.at 0) e in
+          more cares c.loop-at.at row (c.loop-at.invariant.2 none.0) (omega (arith, none.1, byte.fits)) (omega arith) (dec_le (8 * c.loop-at.at) row),
     )
 
-returns : tie.Need-returns invariant-loop decreases-loop
-returns c e row l =
-    c.before.loop.invariant.2 (eqb-true _ _ (not-false _ e)) row (omega (arith, c.before.before.byte-count.ensures))
-
-pub some-free-spec : {M : Type 1} → statement M
-some-free-spec =
-    tie.close (tie.spec invariant-loop decreases-loop (λ c κs. search rules) loop-holds (λ c. search rules) (λ c. search rules) (λ c. search rules) loop-again returns)
+pub returns : goal.returns
+returns c e row l = c.loop-at.invariant.2 (eqb-true _ _ (not-false _ e)) row (omega (arith, c.byte_count-count.ensures))

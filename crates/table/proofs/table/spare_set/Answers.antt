@@ -14,8 +14,8 @@ use borrow.Author.Rules.{rules}
 use Rattle.numbers.specs.Tests.{all_at_most}
 use Rattle.table.specs.Table.{rows_of, byte_count}
 use Rattle.table.proofs.TableLaws.{bytes_le, byte_filled, spare_first, spare_rest}
-use Rattle.table.proofs.table.spare_set.Statement.{statement}
-use Rattle.table.proofs.table.spare_set.Tie as tie
+use Rattle.table.proofs.table.spare_set.Goals as goal
+use Rattle.table.proofs.table.spare_set.Goals.{After-byte_count-count, After-full_byte}
 
 -- the last byte is at a power of the rows or past it only where it is the first
 from_last : (n : ℕ) (bytes : List ℕ) {at : ℕ} → at ≡ byte_count n - 1 → get_or bytes at 0 < 256 → 2 ^ rows_of n ≤ get_or bytes at 0
@@ -40,44 +40,39 @@ below_last n bytes {at} is byte h = by (dec_le 3 n)
         subst (λ (q : ℕ). get_or bytes q 0 < 2 ^ rows_of n) first h
 
 -- the byte that is looked at
-last_is : (c : tie.After-full-byte) → c.before.byte-count.result - 1 ≡ byte_count c.before.before.args.n - 1
-last_is c = ap (λ (count : ℕ). count - 1) c.before.byte-count.ensures
+last_is : (c : After-full_byte) → c.byte_count-count.result - 1 ≡ byte_count c.args.n - 1
+last_is c = ap (λ (count : ℕ). count - 1) c.byte_count-count.ensures
 
-at_least : (c : tie.After-byte-count) → (1 ≤ c.byte-count.result) × (c.byte-count.result ≤ 32)
+at_least : (c : After-byte_count-count) → (1 ≤ c.byte_count-count.result) × (c.byte_count-count.result ≤ 32)
 at_least c =
-    let n = c.before.args.n in
-    (omega (arith, c.byte-count.ensures, pow_pos n), omega (arith, c.byte-count.ensures, bytes_le c.before.requires))
+    let n = c.args.n in
+    (omega (arith, c.byte_count-count.ensures, pow_pos n), omega (arith, c.byte_count-count.ensures, bytes_le c.requires))
 
-returns : tie.Need-returns
+pub returns-then-full_byte-bytes : goal.returns-then-full_byte-bytes
+returns-then-full_byte-bytes c =
+    let a = c.args in
+    let last = get_or a.bytes (c.byte_count-count.result - 1) 0 in
+    let byte : Fits w8 last = search rules in
+    sym (spare_first a.n a.bytes (from_last a.n a.bytes (last_is (goal.at.returns-then-full_byte-bytes c).After-full_byte) byte.fits ((c.full_byte.ensures.by_index_2 last byte.fits).1 c.if-full_byte-bytes.true)))
+
+pub returns : goal.returns
 returns c =
-    let made = c.before in
-    let a = made.before.before.args in
-    let last = get_or a.t2 (made.before.byte-count.result - 1) 0 in
+    let a = c.args in
+    let last = get_or a.bytes (c.byte_count-count.result - 1) 0 in
     let byte : Fits w8 last = search rules in
-    sym (spare_first a.n a.t2 (from_last a.n a.t2 (last_is made) byte.fits ((made.full-byte.ensures.1 last byte.fits).1 c.if1.true)))
-
-returns-2 : tie.Need-returns-2
-returns-2 c =
-    let made = c.before.before in
-    let a = made.before.before.args in
-    let last = get_or a.t2 (made.before.byte-count.result - 1) 0 in
-    let byte : Fits w8 last = search rules in
-    let first : Fits w8 (get_or a.t2 0 0) = search rules in
-    let same : made.before.byte-count.result ≡ byte_count a.n = made.before.byte-count.ensures in
-    c.nonzero-from.ensures
-    ∙ ap (λ (from : ℕ). not (all_at_most 0 (drop from a.t2))) same
+    let first : Fits w8 (get_or a.bytes 0 0) = search rules in
+    let same : c.byte_count-count.result ≡ byte_count a.n = c.byte_count-count.ensures in
+    c.nonzero_from.ensures
+    ∙ ap (λ (from : ℕ). not (all_at_most 0 (drop from a.bytes))) same
     ∙ sym
-    (spare_rest a.n a.t2
-    (below_last a.n a.t2 (last_is made) first.fits ((made.full-byte.ensures.1 last byte.fits).0 (omega (arith, c.before.if1.false)))))
+    (spare_rest a.n a.bytes
+    (below_last a.n a.bytes (last_is (goal.at.returns c).After-full_byte) first.fits ((c.full_byte.ensures.by_index_2 last byte.fits).0 (omega (arith, c.if-full_byte-bytes.false)))))
 
-pub spare-set-spec : {M : Type 1} → statement M
-spare-set-spec =
-    tie.close
-    (tie.spec
-    (λ c κs. search rules)
-    (λ c κs. search rules)
-    (λ c. (at_least c.before).0)
-    (λ c. omega (arith, (at_least c.before).1))
-    returns
-    (λ c κs. (at_least c.before.before).1)
-    returns-2)
+pub overflow_sub-count : goal.overflow_sub-count
+overflow_sub-count c = (at_least (goal.at.overflow_sub-count c).After-byte_count-count).0
+
+pub bounds-bytes-count : goal.bounds-bytes-count
+bounds-bytes-count c = omega (arith, (at_least (goal.at.bounds-bytes-count c).After-byte_count-count).1)
+
+pub nonzero_from-requires : goal.nonzero_from-requires
+nonzero_from-requires c = (at_least (goal.at.nonzero_from-requires c).After-byte_count-count).1
