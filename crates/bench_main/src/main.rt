@@ -3,6 +3,7 @@
 // were saved in. The input holds the heads of records, one after another; a head's kind byte is the way in which its job is carried on,
 // as `ways` says it. What comes after the first head that breaks a rule of records, or after 65,536 bytes, does not count. bench/run
 // times it.
+#![tactic(auto)]
 mod tally;
 mod ways;
 

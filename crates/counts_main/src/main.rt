@@ -1,6 +1,7 @@
 // Runs the job of every table of up to four inputs, and of every partial table of up to three, and counts the tables by the stage that the
 // job ends in. Prints a line for each n, of all tables and of partial ones. The gates of all tables are the published counts of threshold
 // functions; those of partial tables are compared, table by table, with what gates fit.
+#![tactic(auto)]
 mod fitting;
 mod gate_counts;
 mod outcome;

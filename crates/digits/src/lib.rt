@@ -1,2 +1,3 @@
 // Tables as hex digits, made into records.
+#![tactic(auto)]
 pub mod digits;

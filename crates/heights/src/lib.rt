@@ -1,2 +1,3 @@
 // The heights of rows.
+#![tactic(auto)]
 pub mod page;

@@ -1,4 +1,5 @@
 // Prints the cell manual's page of heights, the table of docs/HEIGHTS.md: sixteen lines of sixteen rows.
+#![tactic(auto)]
 use heights::page::page;
 use papers::show;
 

@@ -1,6 +1,7 @@
 // Runs the calls on a job over jobs made by hand: at the edge of each refusal and of each line of "A sound job", with two refusals of
 // an order at once, and with extreme contents. The cases are the lines of standard input; a line that starts with # says what those after
 // it are for. Prints a line for each case, with what every call says.
+#![tactic(auto)]
 mod calls;
 mod print;
 

@@ -1,6 +1,7 @@
 // Carries the job of each function on by one call, shows what came of it, and does the same in many small calls. Prints a line for each
 // function, a second one where the job was still open, and last the numbers of verdicts and the sum of K over the gates; then the same of
 // the partial tables.
+#![tactic(auto)]
 mod call;
 mod paper_function;
 mod split;

@@ -1,5 +1,6 @@
 // Makes long lists of calls on jobs, carry-on and save-and-read-back with refused ones between, and compares each job at the end with
 // one unbroken run. Prints a line for each list.
+#![tactic(auto)]
 mod calls;
 mod list;
 mod starts;

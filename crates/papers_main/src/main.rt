@@ -1,5 +1,6 @@
 // Runs the checked calls over the functions and prints a line for each, then their number and whether the places past n were
 // idle and 0 in every one; then the same over the partial tables.
+#![tactic(auto)]
 mod paper_function;
 
 use papers::data::{FUNCTIONS, PARTIAL};

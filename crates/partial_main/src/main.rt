@@ -1,6 +1,7 @@
 // Runs the checked calls that take a table over tables with rows that are not cared for: what they say, at the edge of each refusal, and with two
 // refusals of an order at once. The cases are the lines of standard input; a line that starts with # says what those after it are for. Prints
 // a line for each case, with what every call says.
+#![tactic(auto)]
 mod calls;
 mod print;
 

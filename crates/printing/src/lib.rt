@@ -1,2 +1,3 @@
 // Prints a report on standard output.
+#![tactic(auto)]
 pub mod report;

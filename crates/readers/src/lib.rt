@@ -1,2 +1,3 @@
 // The reader of records, which travels through the sender's bytes.
+#![tactic(auto)]
 pub mod reader;

@@ -1,2 +1,3 @@
 // The table of a record, read from a slice at a position: the table and the position after it, or the number of a refusal.
+#![tactic(auto)]
 pub mod tables;

@@ -2,6 +2,7 @@
 // writes them into a buffer of each length; then reads byte strings made by hand, and writes what a writer must refuse. The cases are the
 // lines of standard input, each with its letter in front: r for a record of the set, s for a byte string, w for what a writer is given; a
 // line that starts with # says what those after it are for. Prints two lines for each record of the set, and one for each of the others.
+#![tactic(auto)]
 mod buffer;
 mod cases;
 mod record;

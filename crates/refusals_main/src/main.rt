@@ -1,5 +1,6 @@
 // Runs the six checked calls on arguments at the edge of each refusal, on several refusals at once, of which the soonest in the call's
 // order is given, and on extreme contents. Every row of the tables is cared for; `partial_main` has others. Prints what each call says.
+#![tactic(auto)]
 mod gate_refusals;
 mod make;
 mod rows;

@@ -1,4 +1,5 @@
 // Reads records of kinds 1 and 5 from standard input, one after another, and prints the report: a line for each, and the last line.
+#![tactic(auto)]
 use libc::STDIN_FILENO;
 use printing::report::print_report;
 

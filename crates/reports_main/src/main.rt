@@ -1,5 +1,6 @@
 // Prints the reports of inputs: whole records, a refusal of each number, means on a half and beside one, the longest input, large sums, and
 // tables with rows that are not cared for. Each comes after a line that names and spells the input.
+#![tactic(auto)]
 mod input;
 mod inputs;
 

@@ -1,1 +1,2 @@
 // Theorems on the stepping machine, over the definitions of the crates below. There is no code here.
+#![tactic(auto)]

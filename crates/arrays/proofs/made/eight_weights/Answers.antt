@@ -1,0 +1,28 @@
+-- `made::eight_weights` meets its contract. The loop's invariant: the weights below `place` are copied into zeros. The measure is what is left of them.
+-- Assumes nothing.
+use mathlib.Core.Path.{◌≡◌, ◌∙◌, ap}
+use Prim.Native.Nat.{◌-◌, ◌≤◌}
+use native.Mathlib.Omega.{arith}
+use lib.ListN.{length, replicate}
+use lib.IntN.{ℤ, pos}
+use mir.Syntax.{w32}
+use borrow.Author.Rules.{rules}
+use Rattle.numbers.proofs.Int.{back}
+use Rattle.numbers.proofs.TabulateLaws.{filled_none, filled_more}
+use Rattle.arrays.proofs.CopyLaws.{copied, copied_padded}
+use Rattle.arrays.proofs.made.eight_weights.Goals as goal
+
+pub loop-place-init : goal.loop-place-init
+loop-place-init c = (omega arith, filled_none _ _)
+
+pub bounds-own-place : goal.bounds-own-place
+bounds-own-place c = omega arith
+
+pub loop-place-preserved : goal.loop-place-preserved
+loop-place-preserved c = (omega arith, filled_more _ (replicate 8 (pos 0)) c.loop-place.place (bounds-own-place c) c.loop-place.invariant.1 (back w32 c.own-1.given))
+
+pub returns : goal.returns
+returns c =
+    let weights = c.args.weights.now in
+    let all : c.loop-place.place ≡ length weights = omega arith in
+    c.loop-place.invariant.1 ∙ ap (copied (pos 0) weights (replicate 8 (pos 0))) all ∙ copied_padded (pos 0) weights 8 c.requires

@@ -1,0 +1,15 @@
+-- `chunks::chunk::clear` meets its contract. The loop's invariant: the counts of the rows below `row` are 0. The measure is the number of rows
+-- left. Assumes nothing.
+use Rattle.core.specs.Prelude.{◌≡◌, ℕ, ◌-◌, ◌≤◌, length}
+use mathlib.Core.Path.{refl, ◌∙◌, ap}
+use native.Mathlib.Omega.{arith}
+use borrow.Author.Rules.{rules}
+use lib.ListN.{length-set}
+use Rattle.numbers.proofs.TabulateLaws.{filled, filled_none, filled_more}
+use Rattle.chunks.proofs.chunk.clear.Given as goal
+
+abbrev pub invariant-loop-row : goal.invariant-loop-row
+invariant-loop-row l = (l.row ≤ l.rows) × (length l.counts ≡ 256) × (l.counts ≡ filled (λ (r : ℕ). 0) l.initial.counts l.row)
+
+abbrev pub decreases-loop-row : goal.decreases-loop-row
+decreases-loop-row l = l.rows - l.row

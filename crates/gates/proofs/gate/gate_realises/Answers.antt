@@ -1,0 +1,48 @@
+-- `gate::gate_realises` meets its contract. The loop's invariant: the gate agrees with the table on each row below `row`. The measure is
+-- the number of rows left. Assumes nothing.
+use mathlib.Core.Path.{◌≡◌, sym, ◌∙◌}
+use mathlib.Core.Bool.{Bool, true, false, not, ◌||◌}
+use Prim.Native.Nat.{ℕ, ◌≤◌, ◌<◌, ◌-◌}
+use native.Mathlib.Omega.{arith}
+use borrow.Author.Rules.{rules}
+use borrow.Author.Tests.{not-true, not-false}
+use Rattle.numbers.specs.Tests.{same_bool, all_below}
+use Rattle.numbers.proofs.TestLaws.{all_below_zero, all_below_more, all_below_fails}
+use Rattle.types.specs.declared.table.Table.{Table}
+use Rattle.types.specs.declared.gate.Gate.{Gate}
+use Rattle.table.specs.Table.{rows, value, cared, function_of}
+use Rattle.function.specs.Gate.{gate_true, realises}
+use Rattle.table.proofs.OnTables.{table_realises_test}
+use Rattle.table.proofs.TableLaws.{rows_le}
+use Rattle.function.specs.Function.{level}
+use Rattle.gates.proofs.gate.gate_realises.Goals as goal
+use Rattle.gates.proofs.gate.gate_realises.Invariants.{agrees}
+
+-- where they differ on a row, the gate does not realise the table
+realises_fails : (t : Table) (g : Gate) (r : ℕ) → r < rows t → agrees t g r ≡ false → realises g.weights g.threshold (function_of t) ≡ false
+realises_fails t g r h e = table_realises_test t g.weights g.threshold ∙ all_below_fails (rows t) (agrees t g) r h e
+
+-- where they agree on every row, it does
+realises_all : (t : Table) (g : Gate) → all_below (rows t) (agrees t g) ≡ true → realises g.weights g.threshold (function_of t) ≡ true
+realises_all t g e = table_realises_test t g.weights g.threshold ∙ e
+
+pub loop-row-init : goal.loop-row-init
+loop-row-init c = (omega arith, all_below_zero _)
+
+pub agrees_at-requires : goal.agrees_at-requires
+agrees_at-requires c = omega (arith, c.row_count-rows.ensures, rows_le c.requires)
+
+pub returns-then-not-agrees_at : goal.returns-then-not-agrees_at
+returns-then-not-agrees_at c =
+    let a = c.args in
+    let below : c.loop-row.row < rows a.table = omega (arith, c.row_count-rows.ensures) in
+    sym (realises_fails a.table a.gate _ below (sym c.agrees_at.ensures ∙ c.if-not-agrees_at.true))
+
+pub loop-row-preserved : goal.loop-row-preserved
+loop-row-preserved c = (omega arith, all_below_more c.loop-row.row _ c.loop-row.invariant.1 (sym c.agrees_at.ensures ∙ c.if-not-agrees_at.false))
+
+pub returns : goal.returns
+returns c =
+    let a = c.args in
+    let end : c.loop-row.row ≡ rows a.table = omega (arith, c.row_count-rows.ensures) in
+    sym (realises_all a.table a.gate (rw end at c.loop-row.invariant.1))

@@ -1,0 +1,6 @@
+-- `records::read::no_body` meets its contract. Assumes nothing.
+use borrow.Author.Rules.{rules}
+use Rattle.records.proofs.read.no_body.Goals as goal
+
+pub returns : goal.returns
+returns c = λ i. record { read = c.refused.ensures i; next = 0 }

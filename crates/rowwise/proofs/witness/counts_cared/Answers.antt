@@ -1,0 +1,54 @@
+-- `witness::counts_cared` meets its contract. The loop's invariant: the rows below `row` are cared for or have no count. The measure is the number
+-- of rows left. Assumes nothing.
+use mathlib.Core.Path.{◌≡◌, sym, ◌∙◌, ap}
+use mathlib.Core.Bool.{Bool, true, false, ◌||◌}
+use mathlib.Core.List.{List}
+use Prim.Native.Nat.{ℕ, ◌-◌, ◌≤◌, ◌<◌}
+use native.Mathlib.Omega.{arith}
+use lib.Dec.{eqb}
+use borrow.Author.Rules.{rules}
+use borrow.Author.Tests.{not-true, not-false}
+use Rattle.numbers.specs.Tests.{all_below}
+use Rattle.numbers.proofs.TestLaws.{all_below_zero, all_below_more, all_below_from, all_below_fails}
+use Rattle.types.specs.declared.table.Table.{Table}
+use Rattle.function.specs.Witness.{count_of, counts_cared}
+use Rattle.table.specs.Table.{rows, cared, function_of}
+use Rattle.table.proofs.TableLaws.{rows_le}
+use Rattle.rowwise.proofs.witness.counts_cared.Goals as goal
+use Rattle.rowwise.proofs.witness.counts_cared.Goals.{In-loop-row}
+use Rattle.rowwise.proofs.witness.counts_cared.Invariants.{cared_all, cared_fails, cared_whole}
+
+pub loop-row-init : goal.loop-row-init
+loop-row-init c = (omega arith, all_below_zero _)
+
+inside : (c : In-loop-row) → c.loop-row.row < 256
+inside c = omega (arith, c.row_count-rows.ensures, rows_le c.requires)
+
+pub returns-then-not-some_free : goal.returns-then-not-some_free
+returns-then-not-some_free c =
+    let a = c.args in
+    sym (cared_whole a.table a.counts.now (c.some_free.ensures c.if-not-some_free.true))
+
+pub returns-then-not-may_count : goal.returns-then-not-may_count
+returns-then-not-may_count c =
+    let a = c.args in
+    let below : c.loop-row.row < rows a.table = omega (arith, c.row_count-rows.ensures) in
+    sym (cared_fails a.table a.counts.now _ below (sym c.may_count.ensures ∙ c.if-not-may_count.true))
+
+pub loop-row-preserved : goal.loop-row-preserved
+loop-row-preserved c = (omega arith, all_below_more c.loop-row.row _ c.loop-row.invariant.1 (sym c.may_count.ensures ∙ c.if-not-may_count.false))
+
+pub returns : goal.returns
+returns c =
+    let a = c.args in
+    let end : c.loop-row.row ≡ rows a.table = omega (arith, c.row_count-rows.ensures) in
+    sym (cared_all a.table a.counts.now (rw end at c.loop-row.invariant.1))
+
+pub offset_bounds-counts-row : goal.offset_bounds-counts-row
+offset_bounds-counts-row c = omega (arith, inside c)
+
+pub bounds-counts-row : goal.bounds-counts-row
+bounds-counts-row c = inside c
+
+pub may_count-requires : goal.may_count-requires
+may_count-requires c = inside (goal.at.may_count-requires c).After-way_told-1

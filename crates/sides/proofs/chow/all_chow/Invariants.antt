@@ -1,0 +1,19 @@
+-- `chow::all_chow` meets its contract. The loop's invariant: `q` is filled below `place`. The measure is what is left of the eight places.
+-- Assumes nothing.
+use mathlib.Core.Path.{◌≡◌, ◌∙◌}
+use Prim.Native.Nat.{◌-◌, ◌≤◌}
+use native.Mathlib.Omega.{arith}
+use borrow.Author.Rules.{rules}
+use lib.ListN.{replicate}
+use lib.IntN.{pos}
+use mir.Syntax.{w32}
+use Rattle.numbers.proofs.Int.{back}
+use Rattle.numbers.proofs.TabulateLaws.{filled, filled_none, filled_more, filled_all}
+use Rattle.table.specs.Chow.{chow_at, chow_of}
+use Rattle.sides.proofs.chow.all_chow.Given as goal
+
+abbrev pub invariant-loop-place : goal.invariant-loop-place
+invariant-loop-place l = (l.place ≤ 8) × (l.q ≡ filled (chow_at l.table) l.initial.q l.place)
+
+abbrev pub decreases-loop-place : goal.decreases-loop-place
+decreases-loop-place l = 8 - l.place

@@ -1,0 +1,26 @@
+-- `sums::add_levels` meets its contract. The loop's invariant: the sums below `input` have what the row adds, and the others are as they
+-- came. The measure is what is left of the nine sums. Assumes nothing.
+use mathlib.Core.Path.{◌≡◌, ◌∙◌, ap, ap₂}
+use mathlib.Core.List.{List, ◌++◌}
+use Prim.Native.Nat.{ℕ, zero, suc, ◌+◌, ◌*◌, ◌-◌, ◌/◌, ◌%◌, ◌^◌, ◌≤◌, ◌<◌}
+use native.Mathlib.Numerals.{one-add}
+use native.Mathlib.Omega.{arith}
+use lib.ListN.{length, get_or, drop}
+use lib.Seq.{drop-cons, get_or_at}
+use lib.Pow.{shr-shr}
+use Rattle.numbers.specs.Tabulate.{tabulate}
+use Rattle.numbers.proofs.TabulateLaws.{filled, length_tabulate, filled_none, filled_more, filled_all}
+use Rattle.function.specs.Witness.{input_level}
+use Rattle.sides.proofs.SideLaws.{count_level_le}
+use Rattle.function.specs.Function.{level}
+use Rattle.sides.proofs.sums.add_levels.Given as goal
+
+-- a sum with what the row adds
+abbrev pub sum_with : List ℕ → ℕ → ℕ → ℕ → ℕ
+sum_with sums row count i = get_or sums i 0 + count * input_level (level 2 row) i
+
+abbrev pub invariant-loop-input : goal.invariant-loop-input
+invariant-loop-input l = (l.input ≤ 9) × (l.sums ≡ filled (sum_with l.initial.sums l.row l.count) l.initial.sums l.input)
+
+abbrev pub decreases-loop-input : goal.decreases-loop-input
+decreases-loop-input l = 9 - l.input

@@ -1,0 +1,60 @@
+-- `stepping::stepping::fast_steps` meets its contract. The loop's invariant: the state is the machine's but for the steps that are left (`Left` of
+-- LeftLaws). The measure is what is left. Assumes nothing.
+use Rattle.core.specs.Prelude.{◌≡◌, ◌<◌, ◌≤◌}
+use mathlib.Core.Path.{refl}
+use mathlib.Core.Logic.{⊎_elim}
+use native.Mathlib.Omega.{arith}
+use Rattle.lanes.specs.Sums.{magnitude}
+use Rattle.types.specs.declared.stage.Stage.TheVariants.{Open}
+use Rattle.machine.specs.Core.{state_of}
+use Rattle.state.specs.Sound.{Sound}
+use Rattle.state.proofs.SoundBounds.{in_range_search, unit_current, unit_copied}
+use Rattle.stepping.proofs.LeftLaws.{Left, left_start, left_next, left_sound, left_capped}
+use Rattle.table.specs.Table.{function_of}
+use Rattle.stepping.proofs.stepping.fast_steps.Goals as goal
+use Rattle.stepping.proofs.stepping.fast_steps.Goals.{At-loop-table, In-loop-table, Joined-left-lt-CHUNK}
+
+pub loop-table-init : goal.loop-table-init
+loop-table-init c = left_start _ _
+
+-- the loop's state is sound
+sound : (c : At-loop-table) → Sound (function_of c.args.table) (state_of c.loop-table.core c.loop-table.counts)
+sound c = let p = c.requires in left_sound c.loop-table.invariant p.0 p.1 p.2
+
+pub is_fast-requires : goal.is_fast-requires
+is_fast-requires c =
+    let core = c.loop-table.core in
+    let n = c.args.table.n in (
+      in_range_search core.k n core.v.a core.v.b (sound c).capped (unit_current refl (sound c)),
+      in_range_search core.k n core.s.a core.s.b (sound c).capped (unit_copied refl (sound c)),
+    )
+
+-- what the fast form asks of the loop's state
+fast : (c : In-loop-table) → let core = c.loop-table.core in (0 < c.loop-table.left) × (core.stage ≡ Open) × (magnitude core.v ≤ 9000) × (magnitude core.s ≤ 9000)
+fast c = c.is_fast.ensures c.loop-table-test.true
+
+-- the part of a pass is 1 to 750 of what is left
+part_of : (c : Joined-left-lt-CHUNK) → (0 < c.if-left-lt-CHUNK.part) × (c.if-left-lt-CHUNK.part ≤ 750) × (c.if-left-lt-CHUNK.part ≤ c.loop-table.left)
+part_of c =
+    let some = (fast c.before).0 in ⊎_elim (λ w. (omega arith, omega arith, omega arith)) (λ w. (omega arith, omega arith, omega arith)) c.if-left-lt-CHUNK.branch
+
+pub chunk-core-requires : goal.chunk-core-requires
+chunk-core-requires c =
+    let p = c.requires in
+    let told = fast (goal.at.chunk-core-requires c).In-loop-table in
+    let few = left_capped c.loop-table.invariant p.0 p.1 p.2 in
+    let part = part_of (goal.at.chunk-core-requires c).Joined-left-lt-CHUNK in
+    record { n_bound = (p.0, sound (goal.at.chunk-core-requires c).At-loop-table, told.1, omega (arith, few, part.2)); budget_bound = (part.1, told.2, told.3, p.3) }
+
+pub overflow_sub-left : goal.overflow_sub-left
+overflow_sub-left c = (part_of (goal.at.overflow_sub-left c).Joined-left-lt-CHUNK).2
+
+pub loop-table-smaller : goal.loop-table-smaller
+loop-table-smaller c = omega (arith, part_of (goal.at.loop-table-smaller c).Joined-left-lt-CHUNK)
+
+pub loop-table-preserved : goal.loop-table-preserved
+loop-table-preserved c = left_next c.loop-table.invariant (part_of (goal.at.loop-table-preserved c).Joined-left-lt-CHUNK).2 c.chunk-core.ensures
+
+pub returns : goal.returns
+returns c =
+    let l = c.loop-table.invariant in (l.within, l.machine)
