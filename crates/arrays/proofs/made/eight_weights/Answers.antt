@@ -1,6 +1,6 @@
 -- `made::eight_weights` meets its contract. The loop's invariant: the weights below `place` are copied into zeros. The measure is what is left of them.
 -- Assumes nothing.
-use mathlib.Core.Path.{◌≡◌, ◌∙◌, ap}
+use mathlib.Core.Path.{◌≡◌, refl, ◌∙◌, ap}
 use Prim.Native.Nat.{◌-◌, ◌≤◌}
 use native.Mathlib.Omega.{arith}
 use lib.ListN.{length, replicate}
@@ -19,7 +19,7 @@ pub bounds-own-place : goal.bounds-own-place
 bounds-own-place c = omega arith
 
 pub loop-place-preserved : goal.loop-place-preserved
-loop-place-preserved c = (omega arith, filled_more _ (replicate 8 (pos 0)) c.loop-place.place (bounds-own-place c) c.loop-place.invariant.1 (back w32 c.own-1.given))
+loop-place-preserved c = (omega arith, filled_more _ (replicate 8 (pos 0)) c.loop-place.place (bounds-own-place c) c.loop-place.invariant.1 refl)
 
 pub returns : goal.returns
 returns c =

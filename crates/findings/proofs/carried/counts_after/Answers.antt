@@ -58,7 +58,7 @@ pub returns-in-Refused : goal.returns-in-Refused
 returns-in-Refused c =
     let e = carried_refused (job (goal.at.returns-in-Refused c).After-carry_on-carried) (call (goal.at.returns-in-Refused c).After-carry_on-carried) c.carry_on-carried.ensures c.in-Refused.is in
     handed_refused (old (goal.at.returns-in-Refused c).After-carry_on-carried) (held (goal.at.returns-in-Refused c).After-carry_on-carried) (ap (λ (a : Answered Job). and_then a (taken_with (takes (goal.at.returns-in-Refused c).After-carry_on-carried) (job (goal.at.returns-in-Refused c).After-carry_on-carried))) e)
-    (back w64 c.refusal.type_inv ∙ c.refusal.ensures)
+    (c.refusal.ensures)
 
 -- ---- no witness
 -- what is taken of the next job is what the call comes to
@@ -75,7 +75,7 @@ returns-then-not-has_witness c =
     let none = ap not (sym c.has_witness.ensures ∙ c.if-not-has_witness.true) in
     let broken = rule_broken 105 [] (fitted (length (old at)) (counts_of (next at).table (witness_of (next at)))) none in
     handed_refused (old at) (held at) (ap (with_made at.carry-on.result.made) broken ∙ handed (goal.at.returns-then-not-has_witness c).In_default)
-    (back w64 c.refusal-then-not-has_witness.type_inv ∙ c.refusal-then-not-has_witness.ensures)
+    (c.refusal-then-not-has_witness.ensures)
 
 -- ---- its witness
 pub put_counts-rows-requires : goal.put_counts-rows-requires

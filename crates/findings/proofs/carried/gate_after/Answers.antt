@@ -61,7 +61,7 @@ pub returns-in-Refused : goal.returns-in-Refused
 returns-in-Refused c =
     let e = carried_refused (job (goal.at.returns-in-Refused c).After-carry_on-carried) (call (goal.at.returns-in-Refused c).After-carry_on-carried) c.carry_on-carried.ensures c.in-Refused.is in
     gate_refused (old (goal.at.returns-in-Refused c).After-carry_on-carried) (held (goal.at.returns-in-Refused c).After-carry_on-carried) (before (goal.at.returns-in-Refused c).After-carry_on-carried) (ap (λ (a : Answered Job). and_then a (taken_with (takes (goal.at.returns-in-Refused c).After-carry_on-carried) (job (goal.at.returns-in-Refused c).After-carry_on-carried))) e)
-    (back w64 c.refusal.type_inv ∙ c.refusal.ensures)
+    (c.refusal.ensures)
 
 -- ---- no gate
 -- what is taken of the next job is what the call comes to
@@ -78,7 +78,7 @@ returns-then-not-has_gate c =
     let none = ap not (sym c.has_gate.ensures ∙ c.if-not-has_gate.true) in
     let open-yet = rule_broken 105 [] (fitted_gate (length (old at)) (gate_of (next at))) none in
     gate_refused (old at) (held at) (before at) (ap (with_made at.carry-on.result.made) open-yet ∙ handed (goal.at.returns-then-not-has_gate c).In_default)
-    (back w64 c.refusal-then-not-has_gate.type_inv ∙ c.refusal-then-not-has_gate.ensures)
+    (c.refusal-then-not-has_gate.ensures)
 
 -- ---- its gate
 pub put_weights-n-requires : goal.put_weights-n-requires

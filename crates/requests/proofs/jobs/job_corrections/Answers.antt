@@ -28,8 +28,8 @@ after j = answered j.state.k
 pub returns-in_default : goal.returns-in_default
 returns-in_default c =
     let a = c.args in
-    let other = not_of a.bytes.now c.read-given.ensures jobs part after c.in_default.in_default-own.keys2 in
-    back w64 c.not_taken.type_inv ∙ c.not_taken.ensures ∙ ap as_result other
+    let other = not_of a.bytes.now c.read-given.ensures jobs part after c.in_default.not-Job in
+    c.not_taken.ensures ∙ ap as_result other
 
 -- a job
 pub overflow_cast-result : goal.overflow_cast-result

@@ -11,4 +11,4 @@ use Rattle.threshold.proofs.certificate.threshold_check.Goals as goal
 
 pub returns : goal.returns
 unfolding check
-returns c = back w64 c.check_read.type_inv ∙ c.check_read.ensures ∙ ap (λ (r : Read). as_result (check_in r)) c.read.ensures
+returns c = c.check_read.ensures ∙ ap (λ (r : Read). as_result (check_in r)) c.read.ensures

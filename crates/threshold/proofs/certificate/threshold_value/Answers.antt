@@ -11,4 +11,4 @@ use Rattle.threshold.proofs.certificate.threshold_value.Goals as goal
 
 pub returns : goal.returns
 unfolding value_on
-returns c = back w64 c.value_read.type_inv ∙ c.value_read.ensures ∙ ap (λ (r : Read). as_result (value_in c.args.row r)) c.read.ensures
+returns c = c.value_read.ensures ∙ ap (λ (r : Read). as_result (value_in c.args.row r)) c.read.ensures
