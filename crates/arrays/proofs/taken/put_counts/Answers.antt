@@ -31,7 +31,8 @@ long t counts m h size e = length-take-le (rows t) counts (omega (arith, rows_le
 
 pub returns-then-counts-rows : goal.returns-then-counts-rows
 returns-then-counts-rows c =
-    let (t, own) = (c.args.table, c.args.witness.counts) in
+    let t = c.args.table in
+    let own = c.args.witness.counts in
     let size : length own ≡ 256 = search rules in
     returned_short c.args.counts.now (take (rows t) own) (long t own _ c.requires size c.row_count-rows.ensures) c.if-counts-rows.true c.refusal.ensures
 
@@ -60,7 +61,9 @@ shape_of-counts c = c.loop-row.invariant.2
 
 pub returns : goal.returns
 returns c =
-    let (t, own, old) = (c.args.table, c.args.witness.counts, c.args.counts.now) in
+    let t = c.args.table in
+    let own = c.args.witness.counts in
+    let old = c.args.counts.now in
     let size : length own ≡ 256 = search rules in
     let all : c.loop-row.row ≡ rows t = omega (arith, c.row_count-rows.ensures) in
     returned_bytes old (take (rows t) own) (long t own _ c.requires size c.row_count-rows.ensures) c.if-counts-rows.false

@@ -54,7 +54,8 @@ shape_of-weights c = c.loop-place.invariant.2
 
 pub returns : goal.returns
 returns c =
-    let (g, old) = (c.args.gate, c.args.weights.now) in
+    let g = c.args.gate in
+    let old = c.args.weights.now in
     let size : length g.weights ≡ 8 = search rules in
     let all : c.loop-place.place ≡ g.n = omega arith in
     let stands =

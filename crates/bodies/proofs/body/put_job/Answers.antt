@@ -59,12 +59,16 @@ put_numbers-counts_at-requires c =
 
 pub slice_bounds-put_rows-count : goal.slice_bounds-put_rows-count
 slice_bounds-put_rows-count c =
-    let (job, old, from) = (c.args.job, c.args.out.now, c.args.at) in
+    let job = c.args.job in
+    let old = c.args.out.now in
+    let from = c.args.at in
     omega (arith, room_rows job old from c.requires.2 (numbers_put job old from c.requires.2 c.put_table-numbers_at.ensures c.put_numbers-counts_at.ensures))
 
 pub slice_bounds-put_rows-start : goal.slice_bounds-put_rows-start
 slice_bounds-put_rows-start c =
-    let (job, old, from) = (c.args.job, c.args.out.now, c.args.at) in
+    let job = c.args.job in
+    let old = c.args.out.now in
+    let from = c.args.at in
     omega (arith, room_rows job old from c.requires.2 (numbers_put job old from c.requires.2 c.put_table-numbers_at.ensures c.put_numbers-counts_at.ensures))
 
 pub row_count-requires : goal.row_count-requires
@@ -72,7 +76,9 @@ row_count-requires c = kept_inputs c.args.job.table c.requires.0
 
 pub put_rows-length-requires : goal.put_rows-length-requires
 put_rows-length-requires c =
-    let (job, old, from) = (c.args.job, c.args.out.now, c.args.at) in
+    let job = c.args.job in
+    let old = c.args.out.now in
+    let from = c.args.at in
     let sound = kept_sound job c.requires.0 in
     let here = numbers_put job old from c.requires.2 c.put_table-numbers_at.ensures c.put_numbers-counts_at.ensures in
     rw c.row_count.ensures (
@@ -87,11 +93,12 @@ put_rows-length-requires c =
 
 pub returns : goal.returns
 returns c =
-    let (job, old, from) = (c.args.job, c.args.out.now, c.args.at) in
+    let job = c.args.job in
+    let old = c.args.out.now in
+    let from = c.args.at in
     let here = numbers_put job old from c.requires.2 c.put_table-numbers_at.ensures c.put_numbers-counts_at.ensures in
-    rw (job_parts job) (
-      written_part old from (table_bytes job.table ++ numbers_bytes job) (row_list_bytes job.state.counts) (room job old from c.requires.2) here c.put_rows-length.ensures,
-    )
+    rw (job_parts job)
+    (written_part old from (table_bytes job.table ++ numbers_bytes job) (row_list_bytes job.state.counts) (room job old from c.requires.2) here c.put_rows-length.ensures)
 
 pub overflow_add-result : goal.overflow_add-result
 overflow_add-result c = omega (arith, (returns c).0, c.requires.2)

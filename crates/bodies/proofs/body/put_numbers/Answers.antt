@@ -32,13 +32,15 @@ room_current job old from room = omega (arith, length-append (number job ++ curr
 
 pub put_number-v_at-requires : goal.put_number-v_at-requires
 put_number-v_at-requires c =
-    let (job, old) = (c.args.job, c.args.out.now) in
+    let job = c.args.job in
+    let old = c.args.out.now in
     let capped = (kept_sound job c.requires.0).capped in
     (omega (arith, capped), omega (arith, room_current job old c.args.at c.requires.1, length-append (number job) (current job)))
 
 pub put_vector-s_at-requires : goal.put_vector-s_at-requires
 put_vector-s_at-requires c =
-    let (job, old) = (c.args.job, c.args.out.now) in
+    let job = c.args.job in
+    let old = c.args.out.now in
     let v = job.state.v in
     let sound = kept_sound job c.requires.0 in (
       kept_inputs job.table c.requires.0,
@@ -48,7 +50,9 @@ put_vector-s_at-requires c =
 
 pub put_vector-requires : goal.put_vector-requires
 put_vector-requires c =
-    let (job, old, from) = (c.args.job, c.args.out.now, c.args.at) in
+    let job = c.args.job in
+    let old = c.args.out.now in
+    let from = c.args.at in
     let s = job.state.s in
     let sound = kept_sound job c.requires.0 in
     -- after v
@@ -60,6 +64,8 @@ put_vector-requires c =
 
 pub returns : goal.returns
 returns c =
-    let (job, old, from) = (c.args.job, c.args.out.now, c.args.at) in
+    let job = c.args.job in
+    let old = c.args.out.now in
+    let from = c.args.at in
     let here = written_next old from (number job) (current job) (room_current job old from c.requires.1) c.put_number-v_at.ensures c.put_vector-s_at.ensures in
     written_next old from (number job ++ current job) (copied job) c.requires.1 here c.put_vector.ensures

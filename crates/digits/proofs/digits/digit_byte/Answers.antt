@@ -64,12 +64,16 @@ bounds-digits-place-2 c = omega (arith, c.requires.2, c.requires.1)
 
 pub overflow_mul-high : goal.overflow_mul-high
 overflow_mul-high c =
-    let (digits, n, at) = (c.args.digits.now, c.args.n, c.args.at) in
+    let digits = c.args.digits.now in
+    let n = c.args.n in
+    let at = c.args.at in
     omega (arith, high_is digits at _ c.digit_value-high.ensures, high_small digits n at c.requires.1 c.requires.2 c.requires.3 c.if-n-lt3.false)
 
 pub overflow_add-high : goal.overflow_add-high
 overflow_add-high c =
-    let (digits, n, at) = (c.args.digits.now, c.args.n, c.args.at) in
+    let digits = c.args.digits.now in
+    let n = c.args.n in
+    let at = c.args.at in
     omega (
       arith,
       high_is digits at _ c.digit_value-high.ensures,
@@ -80,7 +84,9 @@ overflow_add-high c =
 
 pub returns : goal.returns
 returns c =
-    let (digits, n, at) = (c.args.digits.now, c.args.n, c.args.at) in
+    let digits = c.args.digits.now in
+    let n = c.args.n in
+    let at = c.args.at in
     let low = c.digit_value-low.result in
     let high = c.digit_value-high.result in
     let small : low < 16 = omega (arith, c.digit_value-low.ensures, low_small digits n at c.requires.1 c.requires.2 c.requires.3) in

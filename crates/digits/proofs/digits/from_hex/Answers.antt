@@ -41,7 +41,9 @@ uncounted n rows digits e h k = h (k ∙ sym (ap (λ (rows : ℕ). (rows + 3) / 
 
 pub returns-then-inputs-gt8 : goal.returns-then-inputs-gt8
 returns-then-inputs-gt8 c =
-    let (n, digits, out) = (c.args.inputs, c.args.digits.now, c.args.out.now) in
+    let n = c.args.inputs in
+    let digits = c.args.digits.now in
+    let out = c.args.out.now in
     let broken = first_broken_refused (rules_of n digits) (after n digits out) 2 (here (lt-ltb 8 n c.if-inputs-gt8.true) refl) in
     returned_refused out (sym broken) c.refusal.ensures
 
@@ -50,14 +52,18 @@ overflow_add-row_count c = omega (arith, rows_le c.if-inputs-gt8.false)
 
 pub returns-then-digits-row_count : goal.returns-then-digits-row_count
 returns-then-digits-row_count c =
-    let (n, digits, out) = (c.args.inputs, c.args.digits.now, c.args.out.now) in
+    let n = c.args.inputs in
+    let digits = c.args.digits.now in
+    let out = c.args.out.now in
     let other = ap not (ne_eqb (length digits) (digit_count n) (uncounted n _ digits c.row_count.ensures c.if-digits-row_count.true)) in
     let broken = first_broken_refused (rules_of n digits) (after n digits out) 101 (later (le-ltb 8 n c.if-inputs-gt8.false) (here other refl)) in
     returned_refused out (sym broken) c.refusal-then-digits-row_count.ensures
 
 pub returns-then-not-all_digits : goal.returns-then-not-all_digits
 returns-then-not-all_digits c =
-    let (n, digits, out) = (c.args.inputs, c.args.digits.now, c.args.out.now) in
+    let n = c.args.inputs in
+    let digits = c.args.digits.now in
+    let out = c.args.out.now in
     let right = ap not (eq-eqb (length digits) (digit_count n) (counted n _ digits c.row_count.ensures c.if-digits-row_count.false)) in
     let wrong = ap not (sym c.all_digits.ensures ∙ c.if-not-all_digits.true) in
     let broken = first_broken_refused (rules_of n digits) (after n digits out) 102 (later (le-ltb 8 n c.if-inputs-gt8.false) (later right (here wrong refl))) in
@@ -76,7 +82,9 @@ put_table_record-requires c = omega (arith, ap (λ (t : Table). t.n) c.whole_tab
 
 pub returns : goal.returns
 returns c =
-    let (n, digits, out) = (c.args.inputs, c.args.digits.now, c.args.out.now) in
+    let n = c.args.inputs in
+    let digits = c.args.digits.now in
+    let out = c.args.out.now in
     let few = c.if-inputs-gt8.false in
     let right = ap not (eq-eqb (length digits) (digit_count n) (counted n _ digits c.row_count.ensures c.if-digits-row_count.false)) in
     let all = ap not (sym c.all_digits.ensures ∙ c.if-not-all_digits.false) in

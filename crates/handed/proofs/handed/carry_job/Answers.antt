@@ -18,7 +18,8 @@ use Rattle.handed.proofs.handed.carry_job.Goals as goal
 -- ---- a refusal
 pub returns-in-Refused : goal.returns-in-Refused
 returns-in-Refused c =
-    let (job, old) = (c.args.job, c.args.out.now) in
+    let job = c.args.job in
+    let old = c.args.out.now in
     let e = carried_refused job (carry_on job c.args.budget) c.carry_on-carried.ensures c.in-Refused.is in
     handed_refused old c.args.made.now (ap (λ (a : Answered Job). and_then a (handed_back (length old) job)) e) c.refusal.ensures
 
@@ -26,12 +27,14 @@ returns-in-Refused c =
 -- the call on the job gave it
 pub put_outcome-requires : goal.put_outcome-requires
 put_outcome-requires c =
-    let (job, budget) = (c.args.job, c.args.budget) in
+    let job = c.args.job in
+    let budget = c.args.budget in
     let next_is = carried_done job (carry_on job budget) c.carry_on-carried.ensures c.in_default.is in
     carried_kept job c.carry_on-carried.result.job budget next_is
 
 pub returns : goal.returns
 returns c =
-    let (job, old) = (c.args.job, c.args.out.now) in
+    let job = c.args.job in
+    let old = c.args.out.now in
     let handed = carried_handed job (carry_on job c.args.budget) c.carry_on-carried.ensures (outcome_written (length old)) c.in_default.is in
     handed_as old c.args.made.now handed c.put_outcome.ensures

@@ -17,13 +17,15 @@ use Rattle.outcome.proofs.outcome.write_outcome.Goals as goal
 -- ---- open
 pub returns-in-Open : goal.returns-in-Open
 returns-in-Open c =
-    let (job, old) = (job_of c.args.table c.args.state, c.args.out.now) in
+    let job = job_of c.args.table c.args.state in
+    let old = c.args.out.now in
     wrote_as old (open_written job c.requires (length old) c.in-Open.is) c.save.ensures
 
 -- ---- found
 pub returns-in-Found : goal.returns-in-Found
 returns-in-Found c =
-    let (job, old) = (job_of c.args.table c.args.state, c.args.out.now) in
+    let job = job_of c.args.table c.args.state in
+    let old = c.args.out.now in
     let same = ap (λ (g : Gate). write_record (of_gate job.table g) (length old)) c.vector_gate.ensures in
     wrote_as old (same ∙ found_written job c.requires (length old) c.in-Found.is) c.write_gate.ensures
 
@@ -34,12 +36,14 @@ witness_same j m e = ap (λ (w : Witness). write_record (of_witness j.table w) m
 
 pub returns-in-Looped : goal.returns-in-Looped
 returns-in-Looped c =
-    let (job, old) = (job_of c.args.table c.args.state, c.args.out.now) in
+    let job = job_of c.args.table c.args.state in
+    let old = c.args.out.now in
     wrote_as old (witness_same job (length old) c.witness_of.ensures ∙ looped_written job c.requires (length old) c.in-Looped.is) c.write_witness.ensures
 
 -- ---- binate
 pub returns-in-Binate : goal.returns-in-Binate
 returns-in-Binate c =
-    let (job, old) = (job_of c.args.table c.args.state, c.args.out.now) in
+    let job = job_of c.args.table c.args.state in
+    let old = c.args.out.now in
     wrote_as old (witness_same job (length old) c.witness_of-in-Binate.ensures ∙ binate_written job c.requires (length old) c.in-Binate.is)
     c.write_witness-in-Binate.ensures

@@ -30,13 +30,19 @@ after n words cares out = cares_record n (word_row words) (word_row cares) (leng
 
 pub returns-then-inputs-gt8 : goal.returns-then-inputs-gt8
 returns-then-inputs-gt8 c =
-    let (n, words, cares, out) = (c.args.inputs, c.args.words.now, c.args.cares.now, c.args.out.now) in
+    let n = c.args.inputs in
+    let words = c.args.words.now in
+    let cares = c.args.cares.now in
+    let out = c.args.out.now in
     let broken = first_broken_refused (rules_of n words cares) (after n words cares out) 2 (here (lt-ltb 8 n c.if-inputs-gt8.true) refl) in
     returned_refused out (sym broken) c.refusal.ensures
 
 pub returns-then-few_words : goal.returns-then-few_words
 returns-then-few_words c =
-    let (n, words, cares, out) = (c.args.inputs, c.args.words.now, c.args.cares.now, c.args.out.now) in
+    let n = c.args.inputs in
+    let words = c.args.words.now in
+    let cares = c.args.cares.now in
+    let out = c.args.out.now in
     let short = sym c.few_words.ensures ∙ c.if-few_words.true in
     let broken = first_broken_refused (rules_of n words cares) (after n words cares out) 103 (later (le-ltb 8 n c.if-inputs-gt8.false) (here short refl)) in
     returned_refused out (sym broken) c.refusal-then-few_words.ensures
@@ -44,7 +50,10 @@ returns-then-few_words c =
 -- enough words
 pub returns-then-few_words-2 : goal.returns-then-few_words-2
 returns-then-few_words-2 c =
-    let (n, words, cares, out) = (c.args.inputs, c.args.words.now, c.args.cares.now, c.args.out.now) in
+    let n = c.args.inputs in
+    let words = c.args.words.now in
+    let cares = c.args.cares.now in
+    let out = c.args.out.now in
     let enough = sym c.few_words.ensures ∙ c.if-few_words.false in
     let short = sym c.few_words-2.ensures ∙ c.if-few_words-2.true in
     let broken =
@@ -66,7 +75,10 @@ put_table_record-requires c = c.if-inputs-gt8.false
 
 pub returns : goal.returns
 returns c =
-    let (n, words, cares, out) = (c.args.inputs, c.args.words.now, c.args.cares.now, c.args.out.now) in
+    let n = c.args.inputs in
+    let words = c.args.words.now in
+    let cares = c.args.cares.now in
+    let out = c.args.out.now in
     let few = c.if-inputs-gt8.false in
     let enough = sym c.few_words.ensures ∙ c.if-few_words.false in
     let enough_cares = sym c.few_words-2.ensures ∙ c.if-few_words-2.false in

@@ -31,13 +31,17 @@ after n words out = table_record n (word_row words) (length out)
 
 pub returns-then-inputs-gt8 : goal.returns-then-inputs-gt8
 returns-then-inputs-gt8 c =
-    let (n, words, out) = (c.args.inputs, c.args.words.now, c.args.out.now) in
+    let n = c.args.inputs in
+    let words = c.args.words.now in
+    let out = c.args.out.now in
     let broken = first_broken_refused (rules_of n words) (after n words out) 2 (here (lt-ltb 8 n c.if-inputs-gt8.true) refl) in
     returned_refused out (sym broken) c.refusal.ensures
 
 pub returns-then-few_words : goal.returns-then-few_words
 returns-then-few_words c =
-    let (n, words, out) = (c.args.inputs, c.args.words.now, c.args.out.now) in
+    let n = c.args.inputs in
+    let words = c.args.words.now in
+    let out = c.args.out.now in
     let short = sym c.few_words.ensures ∙ c.if-few_words.true in
     let broken = first_broken_refused (rules_of n words) (after n words out) 103 (later (le-ltb 8 n c.if-inputs-gt8.false) (here short refl)) in
     returned_refused out (sym broken) c.refusal-then-few_words.ensures
@@ -52,7 +56,9 @@ put_table_record-requires c = omega (arith, ap (λ (t : Table). t.n) c.whole_tab
 
 pub returns : goal.returns
 returns c =
-    let (n, words, out) = (c.args.inputs, c.args.words.now, c.args.out.now) in
+    let n = c.args.inputs in
+    let words = c.args.words.now in
+    let out = c.args.out.now in
     let few = c.if-inputs-gt8.false in
     let kept = also (le-ltb 8 n few) (also (sym c.few_words.ensures ∙ c.if-few_words.false) none) in
     -- the table is the one of the words
