@@ -59,7 +59,7 @@ sum_lt c i h =
     )
 
 pub add_row-requires : goal.add_row-requires
-add_row-requires c = (omega arith, ap length (sums_are (goal.at.add_row-requires c).In-loop-row) ∙ length_tabulate _ 9, sum_lt (goal.at.add_row-requires c).After-sums-1)
+add_row-requires c = (omega arith, ap length (sums_are (goal.at.add_row-requires c).At-loop-row) ∙ length_tabulate _ 9, sum_lt (goal.at.add_row-requires c).In-loop-row)
 
 pub loop-row-preserved : goal.loop-row-preserved
 loop-row-preserved c =
@@ -79,14 +79,3 @@ returns c =
     ∙ tabulate_ext _ _ 9
     (λ i h. ap (λ (m : ℕ). sum_to a.table a.side a.counts.now m i) all ∙ sym (side_sum_terms (function_of a.table) a.side (count_of a.counts.now) i))
 
-pub offset_bounds-counts-row : goal.offset_bounds-counts-row
-offset_bounds-counts-row c = omega arith
-
-pub bounds-counts-row : goal.bounds-counts-row
-bounds-counts-row c = omega arith
-
-pub overflow_add-row : goal.overflow_add-row
-overflow_add-row c = omega arith
-
-pub loop-row-smaller : goal.loop-row-smaller
-loop-row-smaller c = omega arith
