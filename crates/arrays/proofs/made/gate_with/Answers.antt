@@ -2,9 +2,6 @@
 use mathlib.Core.Path.{ap}
 use mathlib.Core.List.{List}
 use lib.IntN.{ℤ}
-use mir.Syntax.{w32}
-use mir.Val.{to_z, of_z}
-use borrow.Author.Rules.{rules}
 use Rattle.types.specs.declared.gate.Gate.{Gate}
 use Rattle.arrays.proofs.made.gate_with.Goals as goal
 

@@ -1,17 +1,11 @@
 -- `taken::put_counts` meets its contract. The loop's invariant: the counts of the rows below `row` are copied into the lent array, which is as
 -- long as it was. The measure is what is left of the rows. Assumes nothing.
 use mathlib.Core.Path.{◌≡◌, refl, sym, ◌∙◌, ap}
-use Prim.Native.Nat.{ℕ, ◌-◌, ◌≤◌}
+use Prim.Native.Nat.{ℕ, ◌≤◌}
 use native.Mathlib.Omega.{arith}
 use lib.ListN.{length, take, length-set}
 use lib.Seq.{length-take-le}
-use lib.IntN.{pos}
-use mir.Syntax.{w64}
-use mir.Val.{to_z}
-use mir.Facts.{to_z_pos}
 use borrow.Author.Rules.{rules}
-use Rattle.numbers.proofs.Int.{back}
-use Rattle.numbers.proofs.Widths.{size_fits}
 use Rattle.numbers.proofs.TabulateLaws.{filled_none, filled_more}
 use mathlib.Core.List.{List}
 use Rattle.types.specs.declared.table.Table.{Table}

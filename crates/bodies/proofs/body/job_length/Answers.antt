@@ -1,7 +1,5 @@
 -- `bodies::body::job_length` meets its contract: the lengths of the fields, which are too small for their sum to wrap. Assumes nothing.
-use Prim.Native.Nat.{◌+◌, ◌≤◌}
 use native.Mathlib.Omega.{arith}
-use borrow.Author.Rules.{rules}
 use Rattle.table.proofs.TableLaws.{rows_le}
 use Rattle.job.proofs.JobChecked.{kept_sound}
 use Rattle.codec.proofs.NumberLaws.{number_length}

@@ -1,10 +1,9 @@
 -- `bodies::body::put_gate` meets its contract: the table, and the vector of the gate behind it. Assumes nothing.
 use native.Mathlib.Omega.{arith}
-use borrow.Author.Rules.{rules}
 use Rattle.table.specs.Gate.{weight_limit}
 use Rattle.job.proofs.SoundLaws.{in_range_search}
 use Rattle.cell.proofs.GateChecked.{gate_inputs}
-use Rattle.records.specs.Record.{Record, of_gate}
+use Rattle.records.specs.Record.{of_gate}
 use Rattle.bodies.proofs.RecordParts.{gate_cares, gate_in_limits}
 use Rattle.bodies.proofs.BodyLaws.{table_room, rest_room, rest_put}
 use Rattle.bodies.proofs.body.put_gate.Goals as goal

@@ -1,10 +1,9 @@
 -- `bodies::body::put_job` meets its contract: the table, K, v and s, and the row list in the rest of the buffer. Assumes nothing.
 use mathlib.Core.Path.{ap}
 use mathlib.Core.List.{List, ◌++◌}
-use Prim.Native.Nat.{ℕ, ◌+◌, ◌≤◌}
+use Prim.Native.Nat.{ℕ}
 use native.Mathlib.Omega.{arith}
 use lib.ListN.{length, length-append}
-use borrow.Author.Rules.{rules}
 use Rattle.job.specs.declared.job.Job.{Job}
 use Rattle.job.proofs.JobChecked.{kept_sound}
 use Rattle.table.proofs.TableLaws.{rows_le}

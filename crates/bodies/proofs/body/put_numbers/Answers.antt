@@ -1,18 +1,15 @@
 -- `bodies::body::put_numbers` meets its contract: K, v and s, each behind the one before it. Assumes nothing.
-use mathlib.Core.List.{List, [], ◌++◌}
-use Prim.Native.Nat.{ℕ, ◌+◌, ◌≤◌}
+use mathlib.Core.List.{List, ◌++◌}
+use Prim.Native.Nat.{ℕ}
 use native.Mathlib.Omega.{arith}
-use lib.ListN.{length, length-append}
-use borrow.Author.Rules.{rules}
+use lib.ListN.{length-append}
 use Rattle.job.specs.declared.job.Job.{Job}
-use Rattle.job.specs.Calls.{job_rules}
-use Rattle.refusal.specs.Refusal.{NoneBroken}
 use Rattle.refusal.proofs.TableChecked.{kept_inputs}
 use Rattle.job.proofs.JobChecked.{kept_sound}
 use Rattle.job.proofs.SoundLaws.{in_range_search, table_current, table_copied}
 use Rattle.codec.specs.Number.{number_bytes}
 use Rattle.codec.specs.VectorField.{vector_bytes}
-use Rattle.codec.specs.Written.{Room, Put}
+use Rattle.codec.specs.Written.{Room}
 use Rattle.codec.proofs.WrittenLaws.{written_room, written_next}
 use Rattle.records.specs.Record.{numbers_bytes}
 use Rattle.bodies.proofs.body.put_numbers.Goals as goal

@@ -2,14 +2,10 @@
 use mathlib.Core.Path.{◌≡◌, refl, sym, ◌∙◌, ap}
 use mathlib.Core.Bool.{true, not}
 use mathlib.Core.List.{List, [], ◌∷◌}
-use Prim.Native.Nat.{ℕ, ◌+◌, ◌/◌, ◌≤◌}
+use Prim.Native.Nat.{ℕ, ◌+◌, ◌/◌}
 use native.Mathlib.Omega.{arith}
 use lib.ListN.{length}
-use mir.Syntax.{w64}
-use borrow.Author.Rules.{rules}
-use borrow.Author.Tests.{le-ltb, lt-ltb, eq-eqb, ne_eqb, not-true, not-false}
-use Rattle.numbers.specs.Tests.{all_below}
-use Rattle.numbers.proofs.Int.{back}
+use borrow.Author.Tests.{le-ltb, lt-ltb, eq-eqb, ne_eqb}
 use Rattle.types.specs.declared.table.Table.{Table}
 use mathlib.Core.Logic.{◌≢◌}
 use Rattle.table.specs.Table.{whole_table, rows_of}
@@ -21,7 +17,7 @@ use Rattle.records.specs.Record.{of_table}
 use Rattle.writers.specs.Calls.{write_record}
 use Rattle.results.proofs.ResultLaws.{returned_as, returned_refused}
 use Rattle.imports.specs.Imports.{table_with, table_record}
-use Rattle.digits.specs.Digits.{is_digit, digit_count, digit_row, other_digits, no_digit}
+use Rattle.digits.specs.Digits.{digit_count, digit_row, other_digits, no_digit}
 use Rattle.imports.proofs.RowLaws.{made_written}
 use Rattle.digits.proofs.digits.from_hex.Goals as goal
 

@@ -1,17 +1,17 @@
 -- `found::find_gate` meets its contract: what was read has a job, which is carried on, and the numbers of its gate are given. Assumes nothing.
+use Prim.Native.Nat.{ℕ}
+use lib.IntN.{ℤ}
+use mathlib.Core.List.{List}
 use mathlib.Core.Path.{◌∙◌, ap}
 use native.Mathlib.Omega.{arith}
 use lib.ListN.{length}
-use mir.Syntax.{w64}
-use borrow.Author.Rules.{rules}
-use Rattle.numbers.proofs.Int.{back}
 use Rattle.types.specs.declared.gate.Gate.{Gate}
 use Rattle.refusal.specs.Refusal.{Answered}
 use Rattle.job.specs.declared.job.Job.{Job}
 use Rattle.handed.specs.Handed.{Handed, taken_after}
 use Rattle.requests.proofs.TakenLaws.{read_few}
 use Rattle.findings.specs.Findings.{gate_found}
-use Rattle.found_within.proofs.JobLaws.{of_table_lem, of_job_lem, of_none}
+use Rattle.found_within.proofs.JobLaws.{of_job_lem, of_none}
 use Rattle.findings.proofs.FindingLaws.{gate_as, gate_refused}
 use Rattle.found_within.proofs.found.find_gate.Goals as goal
 
@@ -27,7 +27,7 @@ fresh_of-requires c =
 pub returns-in-Table : goal.returns-in-Table
 returns-in-Table c =
     let a = c.args in
-    let whole = ap (after c.args.budget c.args.weights.now) c.fresh_of.ensures ∙ of-table a.bytes.now c.read-given.ensures (after c.args.budget c.args.weights.now) c.in-Table.is in
+    let whole = ap (after c.args.budget c.args.weights.now) c.fresh_of.ensures ∙ of_table_lem a.bytes.now c.read-given.ensures (after c.args.budget c.args.weights.now) c.in-Table.is in
     gate_as a.weights.now a.threshold.now a.made.now whole c.gate_after.ensures
 
 -- an open job

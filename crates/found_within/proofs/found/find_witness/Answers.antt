@@ -5,16 +5,13 @@ use mathlib.Core.List.{List}
 use Prim.Native.Nat.{ℕ}
 use native.Mathlib.Omega.{arith}
 use lib.ListN.{length}
-use mir.Syntax.{w64}
-use borrow.Author.Rules.{rules}
-use Rattle.numbers.proofs.Int.{back}
 use Rattle.refusal.specs.Refusal.{Answered}
 use Rattle.job.specs.declared.job.Job.{Job}
 use Rattle.handed.specs.Handed.{Handed, taken_after}
 use Rattle.handed.proofs.HandedLaws.{handed_as, handed_refused}
 use Rattle.requests.proofs.TakenLaws.{read_few}
 use Rattle.findings.specs.Findings.{counts_found}
-use Rattle.found_within.proofs.JobLaws.{of_table_lem, of_job_lem, of_none}
+use Rattle.found_within.proofs.JobLaws.{of_job_lem, of_none}
 use Rattle.found_within.proofs.found.find_witness.Goals as goal
 
 -- what comes after the job
@@ -29,7 +26,7 @@ fresh_of-requires c =
 pub returns-in-Table : goal.returns-in-Table
 returns-in-Table c =
     let a = c.args in
-    let whole = ap (after c.args.budget c.args.counts.now) c.fresh_of.ensures ∙ of-table a.bytes.now c.read-given.ensures (after c.args.budget c.args.counts.now) c.in-Table.is in
+    let whole = ap (after c.args.budget c.args.counts.now) c.fresh_of.ensures ∙ of_table_lem a.bytes.now c.read-given.ensures (after c.args.budget c.args.counts.now) c.in-Table.is in
     handed_as a.counts.now a.made.now whole c.counts_after.ensures
 
 -- an open job

@@ -1,12 +1,7 @@
 -- `handed::carry_job` meets its contract: the job after the carry-on keeps its rules, and what it has come to is written. Assumes nothing.
-use mathlib.Core.Path.{◌≡◌, ◌∙◌, ap}
-use mathlib.Core.List.{List}
-use Prim.Native.Nat.{ℕ}
+use mathlib.Core.Path.{ap}
 use lib.ListN.{length}
-use mir.Syntax.{w64}
-use borrow.Author.Rules.{rules}
-use Rattle.numbers.proofs.Int.{back}
-use Rattle.refusal.specs.Refusal.{Answered, answered, and_then}
+use Rattle.refusal.specs.Refusal.{Answered, and_then}
 use Rattle.job.specs.declared.job.Job.{Job}
 use Rattle.job.specs.Calls.{carry_on}
 use Rattle.outcome.specs.Outcome.{outcome_written}

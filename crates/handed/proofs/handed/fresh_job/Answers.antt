@@ -1,10 +1,7 @@
 -- `handed::fresh_job` meets its contract: the fresh job of a table keeps its rules, and what it has come to is written. Assumes nothing.
-use mathlib.Core.Path.{◌≡◌, sym, ◌∙◌, ap, subst}
+use mathlib.Core.Path.{◌≡◌, sym, ap, subst}
 use mathlib.Core.List.{[], ◌∷◌}
 use lib.ListN.{length}
-use mir.Syntax.{w64}
-use borrow.Author.Rules.{rules}
-use Rattle.numbers.proofs.Int.{back}
 use Rattle.refusal.specs.Refusal.{NoneBroken}
 use Rattle.refusal.proofs.TableChecked.{kept_inputs}
 use Rattle.types.specs.declared.table.Table.{Table}

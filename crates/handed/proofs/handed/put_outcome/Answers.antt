@@ -5,13 +5,7 @@ use mathlib.Core.List.{List, [], ◌∷◌}
 use Prim.Native.Nat.{ℕ, ◌≤◌}
 use native.Mathlib.Omega.{arith}
 use lib.ListN.{length}
-use lib.IntN.{pos}
-use mir.Syntax.{w64}
-use mir.Val.{to_z}
-use mir.Facts.{to_z_pos}
 use borrow.Author.Rules.{rules}
-use Rattle.numbers.proofs.Int.{back}
-use Rattle.numbers.proofs.Widths.{size_fits}
 use Rattle.refusal.specs.Refusal.{Answered}
 use Rattle.refusal.proofs.TableChecked.{kept_inputs}
 use Rattle.refusal.specs.Refusal.{NoneBroken}

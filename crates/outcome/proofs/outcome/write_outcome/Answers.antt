@@ -1,9 +1,7 @@
 -- `outcome::write_outcome` meets its contract: by the stage one of the writers, which refuses with 16 and 12 alone. Assumes nothing.
 use mathlib.Core.Path.{◌≡◌, ◌∙◌, ap}
-use mathlib.Core.List.{List}
 use Prim.Native.Nat.{ℕ}
 use lib.ListN.{length}
-use borrow.Author.Rules.{rules}
 use Rattle.types.specs.declared.gate.Gate.{Gate}
 use Rattle.types.specs.declared.witness.Witness.{Witness}
 use Rattle.job.specs.declared.job.Job.{Job}

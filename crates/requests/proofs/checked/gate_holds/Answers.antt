@@ -1,11 +1,9 @@
 -- `checked::gate_holds` meets its contract: what was read is a table, and the gate is checked against it. Assumes nothing.
-use mathlib.Core.Path.{◌≡◌, ◌∙◌, ap}
+use lib.IntN.{ℤ}
+use mathlib.Core.List.{List}
+use mathlib.Core.Path.{◌∙◌, ap}
 use Prim.Native.Nat.{ℕ}
 use native.Mathlib.Omega.{arith}
-use mir.Syntax.{w32, w64}
-use mir.Val.{to_z, of_z}
-use borrow.Author.Rules.{rules}
-use Rattle.numbers.proofs.Int.{back}
 use Rattle.types.specs.declared.table.Table.{Table}
 use Rattle.refusal.specs.Refusal.{Answered}
 use Rattle.codec.specs.Kind.{tables}
@@ -30,9 +28,7 @@ check_gate_with-requires c =
 pub returns-in-Table : goal.returns-in-Table
 returns-in-Table c =
     let whole = of_family c.args.bytes.now c.read-given.ensures tables part (after c.args.weights.now c.args.threshold) c.in-Table.is in
-    let held : to_z w32 (of_z w32 c.args.threshold) ≡ c.args.threshold = search rules in
-    let same = ap (check_gate_with c.read-given.result.table c.args.weights.now) held in
-    c.check_gate_with.ensures ∙ ap as_result (same ∙ whole)
+    c.check_gate_with.ensures ∙ ap as_result whole
 
 -- another kind, or a refusal
 pub returns-in_default : goal.returns-in_default

@@ -1,12 +1,7 @@
 -- `given::gate_record` meets its contract: what was read is a table, and its record with the gate is written. Assumes nothing.
-use mathlib.Core.Path.{◌≡◌, ◌∙◌, ap}
 use native.Mathlib.Omega.{arith}
 use lib.ListN.{length}
 use lib.IntN.{ℤ}
-use mir.Syntax.{w32, w64}
-use mir.Val.{to_z, of_z}
-use borrow.Author.Rules.{rules}
-use Rattle.numbers.proofs.Int.{back}
 use Rattle.types.specs.declared.table.Table.{Table}
 use Rattle.refusal.specs.Refusal.{Answered}
 use Rattle.codec.specs.Kind.{tables}
@@ -40,6 +35,4 @@ from_gate-requires c =
 pub returns : goal.returns
 returns c =
     let whole = of_family c.args.bytes.now c.read-given.ensures tables part (after c.args.weights.now c.args.threshold c.args.out.now) c.in-Table.is in
-    let held : to_z w32 (of_z w32 c.args.threshold) ≡ c.args.threshold = search rules in
-    let same = ap (λ (t : ℤ). from_gate c.read-given.result.table c.args.weights.now t (length c.args.out.now)) held in
-    returned_as c.args.out.now (same ∙ whole) c.from_gate.ensures
+    returned_as c.args.out.now whole c.from_gate.ensures

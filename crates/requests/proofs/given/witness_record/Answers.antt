@@ -1,10 +1,6 @@
 -- `given::witness_record` meets its contract: what was read is a table, and its record with the witness is written. Assumes nothing.
-use mathlib.Core.Path.{◌∙◌}
 use native.Mathlib.Omega.{arith}
 use lib.ListN.{length}
-use mir.Syntax.{w64}
-use borrow.Author.Rules.{rules}
-use Rattle.numbers.proofs.Int.{back}
 use Rattle.types.specs.declared.table.Table.{Table}
 use Rattle.refusal.specs.Refusal.{Answered}
 use Rattle.codec.specs.Kind.{tables}

@@ -1,10 +1,9 @@
 -- `taken::gate_numbers` meets its contract: what was read has a gate, and its numbers are given. Assumes nothing.
-use mathlib.Core.Path.{refl, ◌∙◌}
+use lib.IntN.{ℤ}
+use mathlib.Core.List.{List}
+use mathlib.Core.Path.{refl}
 use native.Mathlib.Omega.{arith}
 use lib.ListN.{length}
-use mir.Syntax.{w64}
-use borrow.Author.Rules.{rules}
-use Rattle.numbers.proofs.Int.{back}
 use Rattle.types.specs.declared.gate.Gate.{Gate}
 use Rattle.refusal.specs.Refusal.{Answered}
 use Rattle.codec.specs.Kind.{gates}

@@ -1,10 +1,6 @@
 -- `taken::witness_numbers` meets its contract: what was read has a witness, and its counts are written. Assumes nothing.
-use mathlib.Core.Path.{◌∙◌}
 use native.Mathlib.Omega.{arith}
 use lib.ListN.{length}
-use mir.Syntax.{w64}
-use borrow.Author.Rules.{rules}
-use Rattle.numbers.proofs.Int.{back}
 use Rattle.refusal.specs.Refusal.{Answered}
 use Rattle.codec.specs.Kind.{witnesses}
 use Rattle.records.specs.declared.read.Read.{Read}

@@ -1,8 +1,5 @@
 -- `certificate::threshold_check` meets its contract: what was read is checked. Assumes nothing.
 use mathlib.Core.Path.{◌∙◌, ap}
-use mir.Syntax.{w64}
-use borrow.Author.Rules.{rules}
-use Rattle.numbers.proofs.Int.{back}
 use Rattle.records.specs.declared.read.Read.{Read}
 use Rattle.results.specs.Result.{as_result}
 use Rattle.certificates.specs.Certificate.{check_in}

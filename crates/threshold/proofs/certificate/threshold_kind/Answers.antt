@@ -1,9 +1,6 @@
 -- `certificate::threshold_kind` meets its contract: what was read has a table that keeps its rules, and a kind. Assumes nothing.
 use mathlib.Core.Path.{◌∙◌, ap}
 use native.Mathlib.Omega.{arith}
-use mir.Syntax.{w64}
-use borrow.Author.Rules.{rules}
-use Rattle.numbers.proofs.Int.{back}
 use Rattle.records.specs.declared.read.Read.{Read}
 use Rattle.results.specs.Result.{as_result}
 use Rattle.certificates.specs.Certificate.{kind_in}

@@ -1,8 +1,5 @@
 -- `certificate::threshold_value` meets its contract: what was read has a value on the row. Assumes nothing.
 use mathlib.Core.Path.{◌∙◌, ap}
-use mir.Syntax.{w64}
-use borrow.Author.Rules.{rules}
-use Rattle.numbers.proofs.Int.{back}
 use Rattle.records.specs.declared.read.Read.{Read}
 use Rattle.results.specs.Result.{as_result}
 use Rattle.certificates.specs.Certificate.{value_in}

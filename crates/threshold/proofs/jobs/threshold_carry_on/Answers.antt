@@ -1,9 +1,5 @@
 -- `jobs::threshold_carry_on` meets its contract: what was read is a job, which is carried on. Assumes nothing.
-use mathlib.Core.Path.{◌∙◌}
 use lib.ListN.{length}
-use mir.Syntax.{w64}
-use borrow.Author.Rules.{rules}
-use Rattle.numbers.proofs.Int.{back}
 use Rattle.handed.specs.Handed.{carried_back}
 use Rattle.handed.proofs.HandedLaws.{handed_as, handed_refused}
 use Rattle.threshold.specs.Interface.{carried_on}

@@ -1,10 +1,6 @@
 -- `jobs::threshold_decide` meets its contract: what was read is a table that keeps its format, which is decided. Assumes nothing.
-use mathlib.Core.Path.{◌∙◌}
 use native.Mathlib.Omega.{arith}
 use lib.ListN.{length}
-use mir.Syntax.{w64}
-use borrow.Author.Rules.{rules}
-use Rattle.numbers.proofs.Int.{back}
 use Rattle.handed.specs.Handed.{decided_back}
 use Rattle.handed.proofs.HandedLaws.{handed_as, handed_refused}
 use Rattle.codec.specs.Kind.{tables}

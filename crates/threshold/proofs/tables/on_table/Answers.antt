@@ -1,13 +1,10 @@
 -- `tables::on_table` meets its contract: what was read is a table that keeps its format, and what is asked of it is written. Assumes
 -- nothing.
-use mathlib.Core.Path.{◌∙◌}
+use Rattle.inputs.specs.declared.asked.Asked.{Asked}
 use mathlib.Core.List.{List}
 use Prim.Native.Nat.{ℕ}
 use native.Mathlib.Omega.{arith}
 use lib.ListN.{length}
-use mir.Syntax.{w64}
-use borrow.Author.Rules.{rules}
-use Rattle.numbers.proofs.Int.{back}
 use Rattle.types.specs.declared.table.Table.{Table}
 use Rattle.refusal.specs.Refusal.{Answered}
 use Rattle.writers.specs.Calls.{fitted}

@@ -1,14 +1,10 @@
 -- `words::from_cares` meets its contract: its rules in their order, then the table's record. Assumes nothing.
-use mathlib.Core.Path.{◌≡◌, refl, sym, ◌∙◌, ap₂}
+use mathlib.Core.Path.{refl, sym, ◌∙◌, ap₂}
 use mathlib.Core.Bool.{false}
 use mathlib.Core.List.{List, [], ◌∷◌}
-use Prim.Native.Nat.{ℕ, ◌≤◌}
-use native.Mathlib.Omega.{arith}
+use Prim.Native.Nat.{ℕ}
 use lib.ListN.{length}
-use mir.Syntax.{w64}
-use borrow.Author.Rules.{rules}
 use borrow.Author.Tests.{lt-ltb, le-ltb, ltb-false}
-use Rattle.numbers.proofs.Int.{back}
 use Rattle.refusal.specs.Refusal.{Rule, Answered, none, also, here, later}
 use Rattle.refusal.specs.TableRules.{too_many_inputs}
 use Rattle.refusal.proofs.RefusalLaws.{first_broken_refused, none_broken_answered}
