@@ -1,5 +1,4 @@
 -- `job::job::not_started` meets its contract. Assumes nothing.
-use borrow.Author.Rules.{rules}
 use Rattle.refusal.specs.declared.refusal.Status.TheVariants as Status'
 use Rattle.job.proofs.job.not_started.Goals as goal
 

@@ -1,7 +1,6 @@
 -- `view::shown::show` meets its contract: the job's rules by `job_status`, and then what its stage shows. Assumes nothing.
 use mathlib.Core.Path.{◌≡◌, sym, ◌∙◌, ap}
 use mathlib.Core.List.{[]}
-use borrow.Author.Rules.{rules}
 use Rattle.refusal.specs.Refusal.{answered}
 use Rattle.job.specs.declared.job.Job.{Job}
 use Rattle.types.specs.declared.stage.Stage.{Stage}
@@ -18,7 +17,7 @@ returns-in-Refused c =
 
 -- past the job's rules, in the job's stage
 abbrev job : In_default → Job
-job c = c.before.before.before.args.job
+job c = c.args.job
 
 passed : (c : In_default) (x : Stage) {s : Shown} → s ≡ shown_in x (job c) → (job c).state.stage ≡ x → s ≡ shown (show_job (job c))
 passed c x e is =

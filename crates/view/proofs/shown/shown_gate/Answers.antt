@@ -1,5 +1,4 @@
 -- `view::shown::shown_gate` meets its contract: the gate is the vector's. Assumes nothing.
-use borrow.Author.Rules.{rules}
 use Rattle.job.specs.Calls.{no_witness}
 use Rattle.view.specs.declared.shown.Verdict.TheVariants as Verdict'
 use Rattle.view.proofs.shown.shown_gate.Goals as goal
