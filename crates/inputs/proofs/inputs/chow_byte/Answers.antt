@@ -7,7 +7,6 @@ use native.Mathlib.Omega.{arith}
 use lib.ListN.{get_or}
 use lib.IntN.{ℤ, pos}
 use mir.Syntax.{w32}
-use borrow.Author.Rules.{rules}
 use Rattle.numbers.proofs.Int.{back}
 use Rattle.inputs.specs.Inputs.{word, chow_bytes}
 use Rattle.inputs.proofs.ByteLaws.{word_small, chow_low, chow_high}
