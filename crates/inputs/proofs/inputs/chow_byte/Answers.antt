@@ -7,6 +7,7 @@ use native.Mathlib.Omega.{arith}
 use lib.ListN.{get_or}
 use lib.IntN.{ℤ, pos}
 use mir.Syntax.{w32}
+use borrow.Author.Rules.{rules}
 use Rattle.numbers.proofs.Int.{back}
 use Rattle.inputs.specs.Inputs.{word, chow_bytes}
 use Rattle.inputs.proofs.ByteLaws.{word_small, chow_low, chow_high}
@@ -17,7 +18,7 @@ use Rattle.inputs.proofs.inputs.chow_byte.Goals.{After-word_of-code}
 word_is : (c : After-word_of-code) → let a = c.args in c.word_of-code.result ≡ word (get_or a.q (a.at / 2) (pos 0))
 word_is c =
     let a = c.args in
-    c.word_of-code.ensures ∙ ap word (back w32 {a = get_or a.q (a.at / 2) (pos 0)} c.word_of-arg-1.given)
+    c.word_of-code.ensures ∙ ap word (back w32 {a = get_or a.q (a.at / 2) (pos 0)} (search rules))
 
 pub overflow_cast-result-else-at-eq0 : goal.overflow_cast-result-else-at-eq0
 overflow_cast-result-else-at-eq0 c =
