@@ -11,7 +11,7 @@ ghost use Rattle.function.specs.Function.{level};
 // Adds a step to the distance of each row of five inputs.
 fn add_low(sums: &mut [i16], steps: &[i16])
     requires sums_len { (length sums.old ≡ 40) × (length steps.now ≡ 32) }
-    requires by_index { (q : ℕ) → q < 32 → nat_abs (get_or sums.old q (pos 0)) + nat_abs (get_or steps.now q (pos 0)) < 2 ^ 15 }
+    requires sizes { (q : ℕ) → q < 32 → nat_abs (get_or sums.old q (pos 0)) + nat_abs (get_or steps.now q (pos 0)) < 2 ^ 15 }
     ensures { sums.new ≡ tabulate 32 (λ q. get_or sums.old q (pos 0) +ℤ get_or steps.now q (pos 0)) ++ drop 32 sums.old }
 {
     let mut row: usize = 0;
@@ -25,7 +25,7 @@ fn add_low(sums: &mut [i16], steps: &[i16])
 // Adds a step to the sum of each row of the higher three inputs. The step of a distance has the sign of b's change besides.
 fn add_high(sums: &mut [i16], steps: &[i16], sign: i16)
     requires sums_len { (length sums.old ≡ 40) × (length steps.now ≡ 8) }
-    requires by_index { (q : ℕ) → q < 8 → nat_abs (get_or sums.old (32 + q) (pos 0)) + nat_abs (get_or steps.now q (pos 0)) + nat_abs sign < 2 ^ 15 }
+    requires sizes { (q : ℕ) → q < 8 → nat_abs (get_or sums.old (32 + q) (pos 0)) + nat_abs (get_or steps.now q (pos 0)) + nat_abs sign < 2 ^ 15 }
     ensures { sums.new ≡ take 32 sums.old ++ tabulate 8 (λ q. get_or sums.old (32 + q) (pos 0) +ℤ get_or steps.now q (pos 0) -ℤ sign) }
 {
     let mut row: usize = 0;

@@ -1,14 +1,10 @@
 -- The job of a record that was read, by its kind: the fresh job of a table, or an open job; another kind has none. Assumes nothing.
 use mathlib.Core.Path.{◌≡◌, refl, sym, ◌∙◌, ap}
-use mathlib.Core.Logic.{⊎_elim}
+use mathlib.Core.Logic.{◌≢◌}
 use mathlib.Core.List.{List, [], ◌∷◌}
 use Prim.Native.Nat.{ℕ}
-use native.Mathlib.Omega.{arith}
-use denote.Enum.Declared.{tag_of}
-use types.Run.{OneOf}
 use Rattle.types.specs.declared.kind.Kind.{Kind}
 use Rattle.types.specs.declared.kind.Kind.TheVariants as Kind'
-use Rattle.types.specs.contracts.kind.Kind.{the_type}
 use Rattle.refusal.specs.Refusal.{Answered, answered, refused, and_then}
 use Rattle.job.specs.declared.job.Job.{Job}
 use Rattle.job.specs.Machine.{fresh}
@@ -22,14 +18,14 @@ use Rattle.found_within.specs.Found.{job_in, job_for}
 abbrev by_kind : Read → Kind → Answered Job
 by_kind r kind = said_of kind (case tables (answered (fresh r.table)) ∷ case jobs (answered r.job) ∷ [])
 
--- neither a table nor a job, by the tags of the kinds
-no_job_lem : (r : Read) (k : Kind) → OneOf (1 ∷ 2 ∷ 4 ∷ []) (tag_of the_type k) → refused (number_for k) ≡ by_kind r k
+-- neither a table nor a job
+no_job_lem : (r : Read) (k : Kind) → k ≢ Kind'.Table → k ≢ Kind'.Job → refused (number_for k) ≡ by_kind r k
 unfolding case_of
-no_job_lem r Kind'.Table o = absurd (⊎_elim (λ e. omega arith) (⊎_elim (λ e. omega arith) (λ e. omega arith)) o)
-no_job_lem r Kind'.Gate o = refl
-no_job_lem r Kind'.Witness o = refl
-no_job_lem r Kind'.Job o = absurd (⊎_elim (λ e. omega arith) (⊎_elim (λ e. omega arith) (λ e. omega arith)) o)
-no_job_lem r (Kind'.Refused n) o = refl
+no_job_lem r Kind'.Table t j = absurd (t refl)
+no_job_lem r Kind'.Gate t j = refl
+no_job_lem r Kind'.Witness t j = refl
+no_job_lem r Kind'.Job t j = absurd (j refl)
+no_job_lem r (Kind'.Refused n) t j = refl
 
 -- r is what was read of the bytes s, `later` what comes after its job
 module _ (s : List ℕ) {r : Read} (says : r ≡ parts_of s) {B : Type 0} (later : Job → Answered B) where
@@ -45,5 +41,5 @@ module _ (s : List ℕ) {r : Read} (says : r ≡ parts_of s) {B : Type 0} (later
   unfolding case_of
   of_job_lem e = known e
 
-  pub of_none : OneOf (1 ∷ 2 ∷ 4 ∷ []) (tag_of the_type r.kind) → refused (number_for r.kind) ≡ and_then (job_for s) later
-  of_none other = ap (λ (a : Answered Job). and_then a later) (no_job_lem r r.kind other ∙ ap job_in says)
+  pub of_none : r.kind ≢ Kind'.Table → r.kind ≢ Kind'.Job → refused (number_for r.kind) ≡ and_then (job_for s) later
+  of_none t j = ap (λ (a : Answered Job). and_then a later) (no_job_lem r r.kind t j ∙ ap job_in says)

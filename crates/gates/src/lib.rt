@@ -1,3 +1,4 @@
 // The gates of a table, row by row. The functions here ask for at most eight inputs: the calls that take anything stand in the crates above.
 #![tactic(auto)]
+
 pub mod gate;

@@ -24,6 +24,7 @@ module _ {A : Type 0} where
 
   -- and it is given wherever that is so
   pub first_broken_refused : (rs : List Rule) (next : Answered A) (n : ℕ) → FirstBroken n rs → checked rs next ≡ refused n
+  first_broken_refused [] next n f = elim f [ ]
   first_broken_refused (r ∷ rs) next n (here b e) = simp b (cc)
   first_broken_refused (r ∷ rs) next n (later b f) = simp b (first_broken_refused rs next n f)
 

@@ -1,19 +1,16 @@
 -- What was read of bytes, to a call on the records of one family: what the call comes to on them and on others, and that they keep their
 -- rules. Assumes nothing.
 use mathlib.Core.Path.{◌≡◌, refl, sym, ◌∙◌, ap, subst}
-use mathlib.Core.Logic.{⊎_elim}
+use mathlib.Core.Logic.{◌≢◌}
 use mathlib.Core.List.{List, [], ◌∷◌}
 use Prim.Native.Nat.{ℕ, ◌≤◌}
 use native.Mathlib.Omega.{arith}
 use lib.ListN.{length}
 use borrow.Author.Tests.{eqb-true, not-false}
-use denote.Enum.Declared.{tag_of}
-use types.Run.{OneOf}
 use Rattle.types.specs.declared.table.Table.{Table}
 use Rattle.types.specs.declared.gate.Gate.{Gate}
 use Rattle.types.specs.declared.kind.Kind.{Kind}
 use Rattle.types.specs.declared.kind.Kind.TheVariants as Kind'
-use Rattle.types.specs.contracts.kind.Kind.{the_type}
 use Rattle.numbers.specs.Tests.{all_below, all_at_most}
 use Rattle.table.specs.Table.{bit_at, spare_set, stray_value}
 use Rattle.refusal.specs.Refusal.{Rule, Answered, answered, refused, NoneBroken, also, and_then}
@@ -36,43 +33,33 @@ use Rattle.requests.specs.Taken.{parts_of, taken_of}
 
 -- ---- the kinds
 
--- the code's kind of a family, and the tags of the other kinds
+-- the code's kind of a family
 abbrev pub kind_for : Family → Kind
 kind_for tables = Kind'.Table
 kind_for gates = Kind'.Gate
 kind_for witnesses = Kind'.Witness
 kind_for jobs = Kind'.Job
 
-abbrev pub others : Family → List ℕ
-others tables = 1 ∷ 2 ∷ 3 ∷ 4 ∷ []
-others gates = 0 ∷ 2 ∷ 3 ∷ 4 ∷ []
-others witnesses = 0 ∷ 1 ∷ 3 ∷ 4 ∷ []
-others jobs = 0 ∷ 1 ∷ 2 ∷ 4 ∷ []
-
--- no tag of the others is its own
-not_other : {a b c d t : ℕ} {A : Type 0} → (t ≡ a → ⊥) → (t ≡ b → ⊥) → (t ≡ c → ⊥) → (t ≡ d → ⊥) → OneOf (a ∷ b ∷ c ∷ d ∷ []) t → A
-not_other p q r s o = absurd (⊎_elim p (⊎_elim q (⊎_elim r s)) o)
-
 -- a record of another kind is refused
-no_part : (f : Family) {A : Type 0} (x : A) (k : Kind) → OneOf (others f) (tag_of the_type k) → refused (number_for k) ≡ said_of k (case f (answered x) ∷ [])
+no_part : (f : Family) {A : Type 0} (x : A) (k : Kind) → k ≢ kind_for f → refused (number_for k) ≡ said_of k (case f (answered x) ∷ [])
 unfolding case_of
-no_part tables x Kind'.Table o = not_other (λ e. omega arith) (λ e. omega arith) (λ e. omega arith) (λ e. omega arith) o
-no_part tables x Kind'.Gate o = refl
-no_part tables x Kind'.Witness o = refl
-no_part tables x Kind'.Job o = refl
-no_part gates x Kind'.Table o = refl
-no_part gates x Kind'.Gate o = not_other (λ e. omega arith) (λ e. omega arith) (λ e. omega arith) (λ e. omega arith) o
-no_part gates x Kind'.Witness o = refl
-no_part gates x Kind'.Job o = refl
-no_part witnesses x Kind'.Table o = refl
-no_part witnesses x Kind'.Gate o = refl
-no_part witnesses x Kind'.Witness o = not_other (λ e. omega arith) (λ e. omega arith) (λ e. omega arith) (λ e. omega arith) o
-no_part witnesses x Kind'.Job o = refl
-no_part jobs x Kind'.Table o = refl
-no_part jobs x Kind'.Gate o = refl
-no_part jobs x Kind'.Witness o = refl
-no_part jobs x Kind'.Job o = not_other (λ e. omega arith) (λ e. omega arith) (λ e. omega arith) (λ e. omega arith) o
-no_part f x (Kind'.Refused n) o = refl
+no_part tables x Kind'.Table h = absurd (h refl)
+no_part tables x Kind'.Gate h = refl
+no_part tables x Kind'.Witness h = refl
+no_part tables x Kind'.Job h = refl
+no_part gates x Kind'.Table h = refl
+no_part gates x Kind'.Gate h = absurd (h refl)
+no_part gates x Kind'.Witness h = refl
+no_part gates x Kind'.Job h = refl
+no_part witnesses x Kind'.Table h = refl
+no_part witnesses x Kind'.Gate h = refl
+no_part witnesses x Kind'.Witness h = absurd (h refl)
+no_part witnesses x Kind'.Job h = refl
+no_part jobs x Kind'.Table h = refl
+no_part jobs x Kind'.Gate h = refl
+no_part jobs x Kind'.Witness h = refl
+no_part jobs x Kind'.Job h = absurd (h refl)
+no_part f x (Kind'.Refused n) h = refl
 
 -- one of the family has its part
 own_part : (f : Family) {A : Type 0} (x : A) → answered x ≡ said_of (kind_for f) (case f (answered x) ∷ [])
@@ -129,7 +116,7 @@ no_table_kept = table_keeps no_table (omega arith) refl refl refl
 module _ (s : List ℕ) {r : Read} (says : r ≡ parts_of s) where
   module _ (f : Family) {A : Type 0} (part : Read → A) where
     -- the part of a record of the family is taken, and another kind is refused
-    part_refused : OneOf (others f) (tag_of the_type r.kind) → refused (number_for r.kind) ≡ taken_of f part (parts_of s)
+    part_refused : r.kind ≢ kind_for f → refused (number_for r.kind) ≡ taken_of f part (parts_of s)
     part_refused other = no_part f (part r) r.kind other ∙ ap (taken_of f part) says
 
     part_taken : r.kind ≡ kind_for f → answered (part r) ≡ taken_of f part (parts_of s)
@@ -138,7 +125,7 @@ module _ (s : List ℕ) {r : Read} (says : r ≡ parts_of s) where
 
     -- so is what comes after it
     module _ {B : Type 0} (later : A → Answered B) where
-      pub not_of : OneOf (others f) (tag_of the_type r.kind) → refused (number_for r.kind) ≡ and_then (taken_of f part (parts_of s)) later
+      pub not_of : r.kind ≢ kind_for f → refused (number_for r.kind) ≡ and_then (taken_of f part (parts_of s)) later
       not_of other = ap (λ (x : Answered A). and_then x later) (part_refused other)
 
       pub of_family : r.kind ≡ kind_for f → later (part r) ≡ and_then (taken_of f part (parts_of s)) later

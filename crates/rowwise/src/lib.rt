@@ -1,5 +1,6 @@
 // Witnesses and inputs of a table, row by row. The functions here ask for at most eight inputs: the calls that take anything stand in the
 // crates above.
 #![tactic(auto)]
+
 pub mod inputs;
 pub mod witness;

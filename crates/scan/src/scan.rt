@@ -74,7 +74,7 @@ fn search_block(
     weight: i32,
 ) -> Lowest
     requires half_bound { (half ≤ 128) × (half + half ≤ length distances.old) }
-    requires by_index { (r : ℕ) → r < half → nat_abs (get_or distances.old r (pos 0)) + nat_abs weight < 2 ^ 31 }
+    requires sums_fit { (r : ℕ) → r < half → nat_abs (get_or distances.old r (pos 0)) + nat_abs weight < 2 ^ 31 }
     ensures value { result ≡ lowest_of (first_from (fails_at cares.now values.now (doubled half weight distances.old)) half half) }
     ensures holds { result ≡ Lowest.Nowhere → Holds (doubled half weight distances.old) (half + half) distances.new }
 {

@@ -1,15 +1,13 @@
 -- `checked::check_gate_with` meets its contract: 104, then what the checker says. Assumes nothing.
-use mathlib.Core.Path.{◌≡◌, ◌∙◌, ap}
+use mathlib.Core.Path.{◌∙◌, ap}
 use mathlib.Core.Bool.{not}
-use mathlib.Core.List.{[]}
+use mathlib.Core.List.{List, []}
 use Prim.Native.Nat.{ℕ}
 use native.Mathlib.Omega.{arith}
 use lib.ListN.{length}
-use mir.Syntax.{w32, w64}
-use mir.Val.{to_z, of_z}
-use borrow.Author.Rules.{rules}
+use lib.IntN.{ℤ}
 use borrow.Author.Tests.{eq-eqb, ne_eqb}
-use Rattle.numbers.proofs.Int.{back}
+use Rattle.types.specs.declared.table.Table.{Table}
 use Rattle.types.specs.declared.gate.Gate.{Gate}
 use Rattle.refusal.specs.Refusal.{Answered}
 use Rattle.cell.specs.Calls.{check_gate}
@@ -19,31 +17,24 @@ use Rattle.results.specs.Result.{as_result, said}
 use Rattle.results.proofs.ResultLaws.{answer_result}
 use Rattle.arrays.specs.Arrays.{gate_with}
 use Rattle.arrays.proofs.checked.check_gate_with.Goals as goal
-use Rattle.arrays.proofs.checked.check_gate_with.Goals.{Start}
 
--- the gate, and what comes after the rule
-abbrev gate : Start → Gate
-gate s = let a = s.args in gate_with a.table a.weights.now a.threshold
-
-abbrev checks : Start → Answered ℕ
-checks s = said (check_gate s.args.table (gate s))
+-- what comes after the rule
+abbrev checks : Table → List ℤ → ℤ → Answered ℕ
+checks t ws threshold = said (check_gate t (gate_with t ws threshold))
 
 pub returns-then-weights-table : goal.returns-then-weights-table
 returns-then-weights-table c =
     let a = c.args in
-    let other = ap not (ne_eqb (length a.weights.now) a.table.n (λ e. omega (arith, c.if-weights-table.true))) in
-    back w64 c.refusal.type_inv ∙ c.refusal.ensures ∙ ap as_result (rule_broken 104 [] (checks (goal.at.returns-then-weights-table c).Start) other)
+    let other = ap not (ne_eqb (length a.weights.now) a.table.n c.if-weights-table.true) in
+    c.refusal.ensures ∙ ap as_result (rule_broken 104 [] (checks a.table a.weights.now a.threshold) other)
 
 pub gate_with-requires : goal.gate_with-requires
-gate_with-requires c = omega (arith, c.if-weights-table.false, c.requires)
+gate_with-requires c = omega arith
 
 pub returns : goal.returns
 returns c =
     let a = c.args in
-    let right = ap not (eq-eqb (length a.weights.now) a.table.n (omega (arith, c.if-weights-table.false))) in
-    let held : to_z w32 (of_z w32 a.threshold) ≡ a.threshold = search rules in
-    let is = c.gate_with.ensures ∙ ap (gate_with a.table a.weights.now) held in
-    let says = c.check_gate.ensures ∙ ap (λ (g : Gate). answer (check_gate a.table g)) is in
-    back w64 c.yes_or_no.type_inv
-    ∙ answer_result (check_gate a.table (gate (goal.at.returns c).Start)) c.yes_or_no.ensures says
-    ∙ ap as_result (rule_kept 104 [] (checks (goal.at.returns c).Start) right)
+    let right = ap not (eq-eqb (length a.weights.now) a.table.n c.if-weights-table.false) in
+    let says = c.check_gate.ensures ∙ ap (λ (g : Gate). answer (check_gate a.table g)) c.gate_with.ensures in
+    answer_result (check_gate a.table (gate_with a.table a.weights.now a.threshold)) c.yes_or_no.ensures says
+    ∙ ap as_result (rule_kept 104 [] (checks a.table a.weights.now a.threshold) right)

@@ -1,12 +1,9 @@
 -- `made::all_counts` meets its contract. The loop's invariant: the counts below `row` are copied into zeros. The measure is what is left of them.
 -- Assumes nothing.
-use mathlib.Core.Path.{◌≡◌, refl, ◌∙◌, ap}
+use mathlib.Core.Path.{◌≡◌}
 use Prim.Native.Nat.{ℕ, ◌-◌, ◌≤◌}
-use native.Mathlib.Omega.{arith}
 use lib.ListN.{length, replicate}
-use borrow.Author.Rules.{rules}
-use Rattle.numbers.proofs.TabulateLaws.{filled_none, filled_more}
-use Rattle.arrays.proofs.CopyLaws.{copied, copied_padded}
+use Rattle.arrays.proofs.CopyLaws.{copied}
 use Rattle.arrays.proofs.made.all_counts.Given as goal
 
 abbrev pub invariant-loop-row : goal.invariant-loop-row

@@ -1,13 +1,9 @@
 -- `made::eight_weights` meets its contract. The loop's invariant: the weights below `place` are copied into zeros. The measure is what is left of them.
 -- Assumes nothing.
-use mathlib.Core.Path.{◌≡◌, ◌∙◌, ap}
-use Prim.Native.Nat.{◌-◌, ◌≤◌}
+use mathlib.Core.Path.{◌≡◌, refl, ◌∙◌, ap}
 use native.Mathlib.Omega.{arith}
 use lib.ListN.{length, replicate}
-use lib.IntN.{ℤ, pos}
-use mir.Syntax.{w32}
-use borrow.Author.Rules.{rules}
-use Rattle.numbers.proofs.Int.{back}
+use lib.IntN.{pos}
 use Rattle.numbers.proofs.TabulateLaws.{filled_none, filled_more}
 use Rattle.arrays.proofs.CopyLaws.{copied, copied_padded}
 use Rattle.arrays.proofs.made.eight_weights.Goals as goal
@@ -19,7 +15,7 @@ pub bounds-own-place : goal.bounds-own-place
 bounds-own-place c = omega arith
 
 pub loop-place-preserved : goal.loop-place-preserved
-loop-place-preserved c = (omega arith, filled_more _ (replicate 8 (pos 0)) c.loop-place.place (bounds-own-place c) c.loop-place.invariant.1 (back w32 c.own-1.given))
+loop-place-preserved c = (omega arith, filled_more _ (replicate 8 (pos 0)) c.loop-place.place (bounds-own-place c) c.loop-place.invariant.1 refl)
 
 pub returns : goal.returns
 returns c =

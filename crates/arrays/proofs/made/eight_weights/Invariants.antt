@@ -1,15 +1,10 @@
 -- `made::eight_weights` meets its contract. The loop's invariant: the weights below `place` are copied into zeros. The measure is what is left of them.
 -- Assumes nothing.
-use mathlib.Core.Path.{◌≡◌, ◌∙◌, ap}
+use mathlib.Core.Path.{◌≡◌}
 use Prim.Native.Nat.{◌-◌, ◌≤◌}
-use native.Mathlib.Omega.{arith}
 use lib.ListN.{length, replicate}
 use lib.IntN.{ℤ, pos}
-use mir.Syntax.{w32}
-use borrow.Author.Rules.{rules}
-use Rattle.numbers.proofs.Int.{back}
-use Rattle.numbers.proofs.TabulateLaws.{filled_none, filled_more}
-use Rattle.arrays.proofs.CopyLaws.{copied, copied_padded}
+use Rattle.arrays.proofs.CopyLaws.{copied}
 use Rattle.arrays.proofs.made.eight_weights.Given as goal
 
 abbrev pub invariant-loop-place : goal.invariant-loop-place

@@ -2,7 +2,6 @@
 use mathlib.Core.Path.{ap}
 use mathlib.Core.List.{List}
 use Prim.Native.Nat.{ℕ}
-use borrow.Author.Rules.{rules}
 use Rattle.types.specs.declared.witness.Witness.{Witness}
 use Rattle.arrays.proofs.made.witness_with.Goals as goal
 

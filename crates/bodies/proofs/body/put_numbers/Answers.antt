@@ -1,76 +1,68 @@
 -- `bodies::body::put_numbers` meets its contract: K, v and s, each behind the one before it. Assumes nothing.
 use mathlib.Core.List.{List, ◌++◌}
-use Prim.Native.Nat.{ℕ, ◌+◌, ◌≤◌}
+use Prim.Native.Nat.{ℕ}
 use native.Mathlib.Omega.{arith}
-use lib.ListN.{length, length-append}
-use borrow.Author.Rules.{rules}
+use lib.ListN.{length-append}
 use Rattle.job.specs.declared.job.Job.{Job}
-use Rattle.job.specs.Sound.{Sound}
 use Rattle.refusal.proofs.TableChecked.{kept_inputs}
 use Rattle.job.proofs.JobChecked.{kept_sound}
 use Rattle.job.proofs.SoundLaws.{in_range_search, table_current, table_copied}
 use Rattle.codec.specs.Number.{number_bytes}
 use Rattle.codec.specs.VectorField.{vector_bytes}
-use Rattle.codec.specs.Written.{Put}
+use Rattle.codec.specs.Written.{Room}
 use Rattle.codec.proofs.WrittenLaws.{written_room, written_next}
+use Rattle.records.specs.Record.{numbers_bytes}
 use Rattle.bodies.proofs.body.put_numbers.Goals as goal
-use Rattle.bodies.proofs.body.put_numbers.Goals.{After-put_vector-s_at, Start}
 
-module _ (c : Start) where
-  abbrev old : List ℕ
-  old = c.args.out.now
+abbrev number : Job → List ℕ
+number job = number_bytes job.state.k
 
-  abbrev from : ℕ
-  from = c.args.at
+abbrev current : Job → List ℕ
+current job = vector_bytes job.table.n job.state.v
 
-  abbrev job : Job
-  job = c.args.job
+abbrev copied : Job → List ℕ
+copied job = vector_bytes job.table.n job.state.s
 
-  abbrev number : List ℕ
-  number = number_bytes job.state.k
-
-  abbrev current : List ℕ
-  current = vector_bytes job.table.n job.state.v
-
-  abbrev copied : List ℕ
-  copied = vector_bytes job.table.n job.state.s
-
-  sound : Sound job
-  sound = kept_sound job c.requires.0
-
-  few : job.table.n ≤ 8
-  few = kept_inputs job.table c.requires.0
-
-  -- the room for all of them, and for K and v
-  room : from + length ((number ++ current) ++ copied) ≤ length old
-  room = c.requires.1
-
-  room_current : from + length (number ++ current) ≤ length old
-  room_current = omega (arith, room, length-append (number ++ current) copied)
+-- the room for K and v
+room_current : (job : Job) (old : List ℕ) (from : ℕ) → Room old from (numbers_bytes job) → Room old from (number job ++ current job)
+room_current job old from room = omega (arith, length-append (number job ++ current job) (copied job))
 
 pub put_number-v_at-requires : goal.put_number-v_at-requires
-put_number-v_at-requires c = (omega (arith, (sound (goal.at.put_number-v_at-requires c).Start).capped), omega (arith, room_current (goal.at.put_number-v_at-requires c).Start, length-append (number (goal.at.put_number-v_at-requires c).Start) (current (goal.at.put_number-v_at-requires c).Start)))
+put_number-v_at-requires c =
+    let job = c.args.job in
+    let old = c.args.out.now in
+    let capped = (kept_sound job c.requires.0).capped in
+    (omega (arith, capped), omega (arith, room_current job old c.args.at c.requires.1, length-append (number job) (current job)))
 
 pub put_vector-s_at-requires : goal.put_vector-s_at-requires
 put_vector-s_at-requires c =
-    let v = (job (goal.at.put_vector-s_at-requires c).After-slice_known-1).state.v in (
-      few (goal.at.put_vector-s_at-requires c).After-slice_known-1,
-      in_range_search (job (goal.at.put_vector-s_at-requires c).After-slice_known-1).state.k (job (goal.at.put_vector-s_at-requires c).After-slice_known-1).table.n v.a v.b (sound (goal.at.put_vector-s_at-requires c).After-slice_known-1).capped (table_current (job (goal.at.put_vector-s_at-requires c).After-slice_known-1).table (sound (goal.at.put_vector-s_at-requires c).After-slice_known-1)),
-      written_room (old (goal.at.put_vector-s_at-requires c).After-slice_known-1) (from (goal.at.put_vector-s_at-requires c).After-slice_known-1) (number (goal.at.put_vector-s_at-requires c).After-slice_known-1) (current (goal.at.put_vector-s_at-requires c).After-slice_known-1) (room_current (goal.at.put_vector-s_at-requires c).After-slice_known-1) c.put_number-v_at.ensures,
+    let job = c.args.job in
+    let old = c.args.out.now in
+    let v = job.state.v in
+    let sound = kept_sound job c.requires.0 in (
+      kept_inputs job.table c.requires.0,
+      in_range_search job.state.k job.table.n v.a v.b sound.capped (table_current job.table sound),
+      written_room old c.args.at (number job) (current job) (room_current job old c.args.at c.requires.1) c.put_number-v_at.ensures,
     )
-
--- after v
-current_put : (c : After-put_vector-s_at) → Put (old c.before.before.before.before.before.before.before) (from c.before.before.before.before.before.before.before) (number c.before.before.before.before.before.before.before ++ current c.before.before.before.before.before.before.before) c.put_vector-s_at.new.0 c.put_vector-s_at.result
-current_put c =
-    written_next (old c.before.before.before.before.before.before.before) (from c.before.before.before.before.before.before.before) (number c.before.before.before.before.before.before.before) (current c.before.before.before.before.before.before.before) (room_current c.before.before.before.before.before.before.before) c.put_number-v_at.ensures c.put_vector-s_at.ensures
 
 pub put_vector-requires : goal.put_vector-requires
 put_vector-requires c =
-    let v = (job (goal.at.put_vector-requires c).After-put_number-arg-1).state.s in (
-      few (goal.at.put_vector-requires c).After-put_number-arg-1,
-      in_range_search (job (goal.at.put_vector-requires c).After-put_number-arg-1).state.k (job (goal.at.put_vector-requires c).After-put_number-arg-1).table.n v.a v.b (sound (goal.at.put_vector-requires c).After-put_number-arg-1).capped (table_copied (job (goal.at.put_vector-requires c).After-put_number-arg-1).table (sound (goal.at.put_vector-requires c).After-put_number-arg-1)),
-      written_room (old (goal.at.put_vector-requires c).After-put_number-arg-1) (from (goal.at.put_vector-requires c).After-put_number-arg-1) (number (goal.at.put_vector-requires c).After-put_number-arg-1 ++ current (goal.at.put_vector-requires c).After-put_number-arg-1) (copied (goal.at.put_vector-requires c).After-put_number-arg-1) (room (goal.at.put_vector-requires c).After-put_number-arg-1) (current_put (goal.at.put_vector-requires c).After-out-2-1),
+    let job = c.args.job in
+    let old = c.args.out.now in
+    let from = c.args.at in
+    let s = job.state.s in
+    let sound = kept_sound job c.requires.0 in
+    -- after v
+    let here = written_next old from (number job) (current job) (room_current job old from c.requires.1) c.put_number-v_at.ensures c.put_vector-s_at.ensures in (
+      kept_inputs job.table c.requires.0,
+      in_range_search job.state.k job.table.n s.a s.b sound.capped (table_copied job.table sound),
+      written_room old from (number job ++ current job) (copied job) c.requires.1 here,
     )
 
 pub returns : goal.returns
-returns c = written_next (old (goal.at.returns c).After-put_number-arg-1) (from (goal.at.returns c).After-put_number-arg-1) (number (goal.at.returns c).After-put_number-arg-1 ++ current (goal.at.returns c).After-put_number-arg-1) (copied (goal.at.returns c).After-put_number-arg-1) (room (goal.at.returns c).After-put_number-arg-1) (current_put (goal.at.returns c).After-out-2-1) c.put_vector.ensures
+returns c =
+    let job = c.args.job in
+    let old = c.args.out.now in
+    let from = c.args.at in
+    let here = written_next old from (number job) (current job) (room_current job old from c.requires.1) c.put_number-v_at.ensures c.put_vector-s_at.ensures in
+    written_next old from (number job ++ current job) (copied job) c.requires.1 here c.put_vector.ensures

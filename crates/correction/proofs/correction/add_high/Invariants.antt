@@ -1,21 +1,11 @@
 -- `lanes::correction::add_high` meets its contract. The loop's invariant: the places below 32 are as they came, and of the others those of
 -- the rows below `row` have their sums. The measure is the number of rows left. Assumes nothing.
-use mathlib.Core.Path.{◌≡◌, refl, sym, ◌∙◌, ap, ap₂}
-use mathlib.Core.List.{List, ◌++◌}
-use Prim.Native.Nat.{ℕ, ◌+◌, ◌-◌, ◌^◌, ◌≤◌, ◌<◌}
-use native.Mathlib.Omega.{arith}
-use borrow.Author.Rules.{rules}
-use lib.ListN.{length, get_or, take, drop, length-set, length-drop, take-append-drop}
-use lib.Seq.{get_or-drop, take-set-le, drop-set-add}
-use lib.IntN.{ℤ, pos, neg_ℤ, nat_abs, ◌+ℤ◌, ◌-ℤ◌}
-use mir.Syntax.{w16}
-use mir.Val.{to_z, of_z}
-use mir.Facts.{to_z-of_z}
-use Rattle.numbers.specs.Tabulate.{tabulate}
-use Rattle.numbers.proofs.Int.{nat_abs_parts, parts_neg, size_add}
-use Rattle.numbers.proofs.Widths.{size_fits}
-use Rattle.numbers.proofs.TabulateLaws.{filled, filled_none, filled_more, filled_all}
-use Rattle.correction.proofs.Entries.{get_d_next}
+use mathlib.Core.Path.{◌≡◌}
+use mathlib.Core.List.{List}
+use Prim.Native.Nat.{ℕ, ◌+◌, ◌-◌, ◌≤◌}
+use lib.ListN.{length, get_or, take, drop}
+use lib.IntN.{ℤ, pos, ◌+ℤ◌, ◌-ℤ◌}
+use Rattle.numbers.proofs.TabulateLaws.{filled}
 use Rattle.correction.proofs.correction.add_high.Given as goal
 
 -- the sum of a row of the higher inputs and its step, less the sign

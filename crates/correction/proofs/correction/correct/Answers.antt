@@ -17,7 +17,6 @@ use Rattle.lanes.specs.Codes.{row_code}
 use Rattle.numbers.proofs.TabulateLaws.{get_d_unfilled}
 use Rattle.correction.proofs.CorrectionLaws.{part, part_size, corrected_sums}
 use Rattle.correction.proofs.correction.correct.Goals as goal
-use Rattle.correction.proofs.correction.correct.Goals.{After-add_high-arg-2-1, Start}
 
 -- ---- the sign of a code
 -- as the code makes it of the code's last bit
@@ -55,42 +54,46 @@ made_is false r = let even : row_code false r % 2 ≡ 0 = omega arith in ap made
 pub add_low-requires : goal.add_low-requires
 add_low-requires c =
     let a = c.args in
-    record { sums_len = search rules; by_index = λ q h. omega ( arith, c.requires.2 q 0 h (omega arith), part_size a.steps.now (a.code % 64 * 32) 32 q c.requires.1 (omega arith) h, ) }
-
-abbrev start : After-add_high-arg-2-1 → Start
-start c = c.before.before.before.before.before.before
+    record {
+      sums_len = search rules;
+      sizes = λ q h. omega (arith, c.requires.2 q 0 h (omega arith), part_size a.steps.now (a.code % 64 * 32) 32 q c.requires.1 (omega arith) h);
+    }
 
 -- the sums after the first addition have the higher inputs' sums as they came
-abbrev half : After-add_high-arg-2-1 → List ℤ
-half c = c.before.before.add_low.new.0
-
-kept : (c : After-add_high-arg-2-1) (q : ℕ) → nat_abs (get_or (half c) (32 + q) (pos 0)) ≡ nat_abs (get_or (start c).args.sums.now (32 + q) (pos 0))
-kept c q =
-    ap (λ (l : List ℤ). nat_abs (get_or l (32 + q) (pos 0))) c.add_low.ensures
-    ∙ ap nat_abs (get_d_unfilled _ (start c).args.sums.now 32 q (pos 0))
+kept : (half sums : List ℤ) (f : ℕ → ℤ) (q : ℕ) → half ≡ tabulate 32 f ++ drop 32 sums
+    → nat_abs (get_or half (32 + q) (pos 0)) ≡ nat_abs (get_or sums (32 + q) (pos 0))
+kept half sums f q e = ap (λ (l : List ℤ). nat_abs (get_or l (32 + q) (pos 0))) e ∙ ap nat_abs (get_d_unfilled f sums 32 q (pos 0))
 
 pub overflow_mul-code : goal.overflow_mul-code
-overflow_mul-code c = double_fits _ (mod-lt (start c).args.code (omega arith))
+overflow_mul-code c = double_fits _ (mod-lt c.args.code (omega arith))
 
 pub overflow_sub-code : goal.overflow_sub-code
-overflow_sub-code c = less_fits _ (mod-lt (start c).args.code (omega arith))
+overflow_sub-code c = less_fits _ (mod-lt c.args.code (omega arith))
 
 pub add_high-requires : goal.add_high-requires
 add_high-requires c =
-    let entry = start c in
-    let a = entry.args in
+    let a = c.args in
     let from = (a.code / 64 * 2 + a.code % 2) * 32 in
-    record { sums_len = search rules; by_index = λ q h. omega ( arith, entry.pre.2 0 q (omega arith) h, kept c q, part_size a.steps.now from 8 q entry.pre.1 (omega arith) h, made_size (a.code % 2) (mod-lt a.code (omega arith)), ) }
+    record {
+      sums_len = search rules;
+      sizes = λ q h.
+          omega (
+            arith,
+            c.requires.2 0 q (omega arith) h,
+            kept c.add_low.new.sums a.sums.now (λ k. get_or a.sums.now k (pos 0) +ℤ get_or (part (a.code % 64 * 32) 32 a.steps.now) k (pos 0)) q c.add_low.ensures,
+            part_size a.steps.now from 8 q c.requires.1 (omega arith) h,
+            made_size (a.code % 2) (mod-lt a.code (omega arith)),
+          );
+    }
 
 pub returns : goal.returns
 returns c v y row eight bound is sums-is =
-    let entry = start (goal.at.returns c).After-add_high-arg-2-1 in
-    let a = entry.args in
+    let a = c.args in
+    let half = c.add_low.new.sums in
     let low : ℕ → ℤ = λ q. get_or (part (a.code % 64 * 32) 32 a.steps.now) q (pos 0) in
     let high : ℕ → ℤ = λ q. get_or (part ((a.code / 64 * 2 + a.code % 2) * 32) 8 a.steps.now) q (pos 0) in
     c.add_high.ensures
-    ∙ ap (λ (z : ℤ). take 32 (half (goal.at.returns c).After-add_high-arg-2-1) ++ tabulate 8 (λ q. get_or (half (goal.at.returns c).After-add_high-arg-2-1) (32 + q) (pos 0) +ℤ high q -ℤ z))
+    ∙ ap (λ (z : ℤ). take 32 half ++ tabulate 8 (λ q. get_or half (32 + q) (pos 0) +ℤ high q -ℤ z))
     (ap (λ (k : ℕ). made (k % 2)) is ∙ made_is y row)
-    ∙ corrected_sums y row a.code v a.steps.now eight entry.pre.0 is entry.pre.1 (half (goal.at.returns c).After-add_high-arg-2-1)
-    (c.add_low.ensures
-    ∙ ap (λ (l : List ℤ). tabulate 32 (λ q. get_or l q (pos 0) +ℤ low q) ++ drop 32 l) sums-is)
+    ∙ corrected_sums y row a.code v a.steps.now eight c.requires.0 is c.requires.1 half
+    (c.add_low.ensures ∙ ap (λ (l : List ℤ). tabulate 32 (λ q. get_or l q (pos 0) +ℤ low q) ++ drop 32 l) sums-is)

@@ -1,15 +1,11 @@
 -- `digits::all_digits` meets its contract. The loop's invariant: each character below `at` is a digit. The measure is what is left of them.
 -- Assumes nothing.
-use mathlib.Core.Path.{◌≡◌, sym, ◌∙◌, ap}
+use mathlib.Core.Path.{◌≡◌}
 use mathlib.Core.Bool.{true}
-use Prim.Native.Nat.{ℕ, ◌-◌, ◌≤◌}
-use native.Mathlib.Omega.{arith}
-use lib.ListN.{length, get_or}
-use borrow.Author.Rules.{rules}
-use borrow.Author.Tests.{lt-ltb, le-ltb}
+use Prim.Native.Nat.{◌-◌, ◌≤◌}
+use lib.ListN.{length}
 use Rattle.numbers.specs.Tests.{all_below}
-use Rattle.numbers.proofs.TestLaws.{all_below_zero, all_below_more, all_below_fails}
-use Rattle.digits.specs.Digits.{digit_value, is_digit}
+use Rattle.digits.specs.Digits.{is_digit}
 use Rattle.digits.proofs.digits.all_digits.Given as goal
 
 abbrev pub invariant-loop-at : goal.invariant-loop-at

@@ -1,49 +1,45 @@
 -- `found::find_gate` meets its contract: what was read has a job, which is carried on, and the numbers of its gate are given. Assumes nothing.
+use Prim.Native.Nat.{ℕ}
+use lib.IntN.{ℤ}
+use mathlib.Core.List.{List}
 use mathlib.Core.Path.{◌∙◌, ap}
 use native.Mathlib.Omega.{arith}
 use lib.ListN.{length}
-use mir.Syntax.{w64}
-use borrow.Author.Rules.{rules}
-use Rattle.numbers.proofs.Int.{back}
 use Rattle.types.specs.declared.gate.Gate.{Gate}
 use Rattle.refusal.specs.Refusal.{Answered}
 use Rattle.job.specs.declared.job.Job.{Job}
 use Rattle.handed.specs.Handed.{Handed, taken_after}
 use Rattle.requests.proofs.TakenLaws.{read_few}
 use Rattle.findings.specs.Findings.{gate_found}
-use Rattle.found_within.proofs.JobLaws.{of_table_lem, of_job_lem, of_none}
+use Rattle.found_within.proofs.JobLaws.{of_job_lem, of_none}
 use Rattle.findings.proofs.FindingLaws.{gate_as, gate_refused}
 use Rattle.found_within.proofs.found.find_gate.Goals as goal
-use Rattle.found_within.proofs.found.find_gate.Goals.{Start}
 
 -- what comes after the job
-abbrev after : Start → Job → Answered (Handed Gate)
-after s = taken_after s.args.budget (gate_found (length s.args.weights.now))
+abbrev after : ℕ → List ℤ → Job → Answered (Handed Gate)
+after budget weights = taken_after budget (gate_found (length weights))
 
 -- a table
 pub fresh_of-requires : goal.fresh_of-requires
 fresh_of-requires c =
-    read_few c.args.bytes.now c.read-given.ensures
-    (λ i h. omega (arith, c.shared_slice_known-1.given i))
+    read_few c.args.bytes.now c.read-given.ensures (λ i h. omega (arith, c.type_inv.bytes i))
 
 pub returns-in-Table : goal.returns-in-Table
 returns-in-Table c =
     let a = c.args in
-    let whole = ap (after (goal.at.returns-in-Table c).After-shared_slice_known-1) c.fresh_of.ensures ∙ of-table a.bytes.now c.read-given.ensures (after (goal.at.returns-in-Table c).After-shared_slice_known-1) c.in-Table.is in
-    let (((r, b), t), m) = c.gate_after.ensures in
-    gate_as a.weights.now a.threshold.now a.made.now whole (((back w64 c.gate_after.type_inv ∙ r, b), t), m)
+    let whole = ap (after c.args.budget c.args.weights.now) c.fresh_of.ensures ∙ of_table_lem a.bytes.now c.read-given.ensures (after c.args.budget c.args.weights.now) c.in-Table.is in
+    gate_as a.weights.now a.threshold.now a.made.now whole c.gate_after.ensures
 
 -- an open job
 pub returns-in-Job : goal.returns-in-Job
 returns-in-Job c =
     let a = c.args in
-    let whole = of_job_lem a.bytes.now c.read-given.ensures (after (goal.at.returns-in-Job c).After-shared_slice_known-1) c.in-Job.is in
-    let (((r, b), t), m) = c.gate_after-in-Job.ensures in
-    gate_as a.weights.now a.threshold.now a.made.now whole (((back w64 c.gate_after-in-Job.type_inv ∙ r, b), t), m)
+    let whole = of_job_lem a.bytes.now c.read-given.ensures (after c.args.budget c.args.weights.now) c.in-Job.is in
+    gate_as a.weights.now a.threshold.now a.made.now whole c.gate_after-in-Job.ensures
 
 -- another kind, or a refusal
 pub returns-in_default : goal.returns-in_default
 returns-in_default c =
     let a = c.args in
-    let other = of_none a.bytes.now c.read-given.ensures (after (goal.at.returns-in_default c).Start) c.in_default.in_default-own.keys3 in
-    gate_refused a.weights.now a.threshold.now a.made.now other (back w64 c.not_taken.type_inv ∙ c.not_taken.ensures)
+    let other = of_none a.bytes.now c.read-given.ensures (after c.args.budget c.args.weights.now) c.in_default.not-Table c.in_default.not-Job in
+    gate_refused a.weights.now a.threshold.now a.made.now other c.not_taken.ensures

@@ -1,6 +1,5 @@
 -- `found::fresh_of` meets its contract. Assumes nothing.
 use mathlib.Core.Path.{ap}
-use borrow.Author.Rules.{rules}
 use Rattle.types.specs.declared.state.State.{State}
 use Rattle.job.specs.declared.job.Job.{Job}
 use Rattle.job.specs.Machine.{fresh}

@@ -1,7 +1,6 @@
 -- `gate::agrees_at` meets its contract: where gate and table differ, the row's care decides. Assumes nothing.
 use mathlib.Core.Path.{◌≡◌, sym, ◌∙◌, ap, ap₂}
 use mathlib.Core.Bool.{Bool, not, beq, ◌||◌, or-true, or-false}
-use borrow.Author.Rules.{rules}
 use Rattle.numbers.specs.Tests.{same_bool}
 use Rattle.numbers.proofs.TestLaws.{same_bool_beq}
 use Rattle.table.specs.Table.{value, cared}

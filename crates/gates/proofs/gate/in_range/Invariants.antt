@@ -1,18 +1,13 @@
 -- `gate::in_range` meets its contract. The loop's invariant: each weight below `place` is within its limit. The measure is the number of
 -- places left. Assumes nothing.
-use mathlib.Core.Path.{◌≡◌, sym, ◌∙◌, ap}
+use mathlib.Core.Path.{◌≡◌}
 use mathlib.Core.Bool.{Bool, true, false, and-false}
 use mathlib.Core.List.{List}
 use Prim.Native.Nat.{ℕ, ◌≤◌, ◌<◌, ◌-◌}
-use native.Mathlib.Omega.{arith}
 use lib.ListN.{get_or}
 use lib.IntN.{ℤ, pos}
-use mir.Syntax.{w32}
-use mir.Val.{to_z, of_z}
-use borrow.Author.Rules.{rules}
-use borrow.Author.Tests.{not-true, not-false}
 use Rattle.numbers.specs.Tests.{all_below}
-use Rattle.numbers.proofs.TestLaws.{all_below_zero, all_below_more, all_below_fails}
+use Rattle.numbers.proofs.TestLaws.{all_below_fails}
 use Rattle.table.specs.Gate.{within, place_limit, in_range}
 use Rattle.gates.proofs.gate.in_range.Given as goal
 

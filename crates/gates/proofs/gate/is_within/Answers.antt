@@ -9,7 +9,6 @@ use lib.Signed.{le_z}
 use mir.Syntax.{w32, w64}
 use mir.Val.{to_z, of_z, SFits}
 use mir.Facts.{to_z-of_z, to_z_pos}
-use borrow.Author.Rules.{rules}
 use Rattle.table.specs.Gate.{within}
 use Rattle.numbers.proofs.Widths.{wide_fits, wide_back}
 use Rattle.gates.proofs.gate.is_within.Goals as goal

@@ -1,7 +1,6 @@
 -- `gate::weight_within` meets its contract: the weight is passed on by its bits, and read back from them. Assumes nothing.
 use mathlib.Core.Path.{◌∙◌, ap₂}
 use mir.Syntax.{w32}
-use borrow.Author.Rules.{rules}
 use Rattle.numbers.proofs.Int.{back}
 use Rattle.table.specs.Gate.{within}
 use Rattle.gates.proofs.gate.weight_within.Goals as goal

@@ -5,15 +5,12 @@ use mathlib.Core.List.{List, [], ◌∷◌}
 use Prim.Native.Nat.{ℕ, ◌≤◌}
 use native.Mathlib.Omega.{arith}
 use lib.ListN.{length}
-use lib.IntN.{pos}
-use mir.Syntax.{w64}
-use mir.Val.{to_z}
-use mir.Facts.{to_z_pos}
 use borrow.Author.Rules.{rules}
-use Rattle.numbers.proofs.Int.{back}
-use Rattle.numbers.proofs.Widths.{size_fits}
 use Rattle.refusal.specs.Refusal.{Answered}
 use Rattle.refusal.proofs.TableChecked.{kept_inputs}
+use Rattle.refusal.specs.Refusal.{NoneBroken}
+use Rattle.job.specs.Calls.{job_rules}
+use Rattle.writers.specs.declared.write.Written.{Written}
 use Rattle.job.specs.declared.job.Job.{Job}
 use Rattle.writers.specs.declared.write.Written.TheVariants as Written'
 use Rattle.records.specs.Record.{record_bytes}
@@ -25,54 +22,40 @@ use Rattle.outcome.specs.Outcome.{job_of, outcome, uncarried, outcome_written}
 use Rattle.handed.proofs.HandedLaws.{handed_with, made_handed, made_held}
 use Rattle.outcome.proofs.OutcomeLaws.{outcome_most}
 use Rattle.handed.proofs.handed.put_outcome.Goals as goal
-use Rattle.handed.proofs.handed.put_outcome.Goals.{After-write_outcome-answer, In-Bytes-2, Start}
 
-module _ (c : After-write_outcome-answer) where
-  abbrev start : Start
-  start = c.before.before.before
+-- what a job has come to, as bytes
+module _ (room : ℕ) (job : Job) (kept : NoneBroken (job_rules job [])) (answer : Written) (e : answer ≡ written (outcome_written room job)) where
+  -- the length of what was written
+  length_known : {n : ℕ} → answer ≡ Written'.Bytes n → written (outcome_written room job) ≡ Written'.Bytes n
+  length_known is = sym e ∙ is
 
-  abbrev job : Job
-  job = job_of start.args.table start.args.state
-
-  -- what is written
-  abbrev bytes : List ℕ
-  bytes = record_bytes (outcome job)
-
-  abbrev call : Answered (List ℕ)
-  call = outcome_written (length start.args.out.now) job
+  small : {n : ℕ} → answer ≡ Written'.Bytes n → n ≤ 2048
+  small {n} is =
+      let bytes = record_bytes (outcome job) in
+      let rules = uncarried job.state.stage job.table ∷ too_short room bytes ∷ [] in
+      checked_short rules bytes (outcome_most job (kept_inputs job.table kept)) e n (ap length_by is)
 
 -- ---- a length
-module _ (c : In-Bytes-2) where
-  abbrev wrote : After-write_outcome-answer
-  wrote = c.before.before.before.before
-
-  length_known : written (call wrote) ≡ Written'.Bytes c.answer.given.0.0
-  length_known = sym wrote.write-outcome.ensures.0 ∙ c.answer.given.1
-
-  small : c.answer.given.0.0 ≤ 2048
-  small =
-      let s = start wrote in
-      let rules = uncarried s.args.state.stage s.args.table ∷ too_short (length s.args.out.now) (bytes wrote) ∷ [] in
-      checked_short rules (bytes wrote) (outcome_most (job wrote) (kept_inputs s.args.table s.pre)) wrote.write-outcome.ensures.0
-      c.answer.given.0.0 (ap length_by c.answer.given.1)
-
 pub overflow_cast-result : goal.overflow_cast-result
-overflow_cast-result c = size_fits (omega (arith, small (goal.at.overflow_cast-result c).In-Bytes-2))
+overflow_cast-result c =
+    let a = c.args in
+    omega (arith, small (length a.out.now) (job_of a.table a.state) c.requires _ c.write_outcome-answer.ensures.0 c.in-Bytes.is)
 
 pub returns-in-Bytes : goal.returns-in-Bytes
 returns-in-Bytes c =
-    let value : to_z w64 c.in-Bytes.length ≡ pos c.in-Bytes.length = to_z_pos w64 (omega (arith, small (goal.at.returns-in-Bytes c).In-Bytes-2)) in
-    let a = (start (wrote (goal.at.returns-in-Bytes c).In-Bytes-2)).args in
-    handed_with (call (wrote (goal.at.returns-in-Bytes c).In-Bytes-2)) a.corrections a.out.now a.made.now
-    (value ∙ ap as_result (measured_length (call (wrote (goal.at.returns-in-Bytes c).In-Bytes-2)) (length_known (goal.at.returns-in-Bytes c).In-Bytes-2)), (wrote (goal.at.returns-in-Bytes c).In-Bytes-2).write-outcome.ensures.1)
-    (made_handed (call (wrote (goal.at.returns-in-Bytes c).In-Bytes-2)) a.corrections a.made.now (length_known (goal.at.returns-in-Bytes c).In-Bytes-2))
+    let a = c.args in
+    let job = job_of a.table a.state in
+    let call = outcome_written (length a.out.now) job in
+    let known = length_known (length a.out.now) job c.requires _ c.write_outcome-answer.ensures.0 c.in-Bytes.is in
+    handed_with call a.corrections a.out.now a.made.now
+    (ap as_result (measured_length call known), c.write_outcome-answer.ensures.1)
+    (made_handed call a.corrections a.made.now known)
 
 -- ---- a refusal
 pub returns-in-Refused : goal.returns-in-Refused
 returns-in-Refused c =
-    let a = (start (goal.at.returns-in-Refused c).After-write_outcome-answer).args in
+    let a = c.args in
+    let call = outcome_written (length a.out.now) (job_of a.table a.state) in
     let e = sym c.write_outcome-answer.ensures.0 ∙ c.in-Refused.is in
-    let same = ap (λ (x : Answered (List ℕ)). as_result (measured x)) (written_refused (call (goal.at.returns-in-Refused c).After-write_outcome-answer) e) in
-    handed_with (call (goal.at.returns-in-Refused c).After-write_outcome-answer) a.corrections a.out.now a.made.now
-    (back w64 c.refusal.type_inv ∙ c.refusal.ensures ∙ same, c.write_outcome-answer.ensures.1)
-    (made_held (call (goal.at.returns-in-Refused c).After-write_outcome-answer) a.corrections a.made.now e)
+    let same = ap (λ (x : Answered (List ℕ)). as_result (measured x)) (written_refused call e) in
+    handed_with call a.corrections a.out.now a.made.now (c.refusal.ensures ∙ same, c.write_outcome-answer.ensures.1) (made_held call a.corrections a.made.now e)

@@ -5,7 +5,6 @@ use Prim.Native.Nat.{ℕ, ◌-◌, ◌%◌, ◌^◌}
 use native.Mathlib.Nat.{one-mul, mod-eq_of_lt}
 use native.Mathlib.Omega.{arith}
 use lib.Count.{count_leading_zeros, leading_top}
-use borrow.Author.Rules.{rules}
 use Rattle.numbers.specs.Power.{highest}
 use Rattle.numbers.proofs.PowerLaws.{highest_zero, highest_shift, highest_le}
 use Rattle.machine.proofs.power.top_power.Goals as goal

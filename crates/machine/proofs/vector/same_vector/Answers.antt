@@ -2,7 +2,6 @@
 -- the number of places left. Assumes nothing.
 use mathlib.Core.Path.{◌≡◌, sym, ◌∙◌, ap}
 use mathlib.Core.Bool.{false}
-use Prim.Native.Nat.{ℕ, ◌-◌, ◌≤◌, ◌<◌}
 use native.Mathlib.Omega.{arith}
 use lib.ListN.{length, get_or}
 use lib.Seq.{ext_get_or}
@@ -10,7 +9,6 @@ use lib.IntN.{ℤ, pos}
 use mir.Syntax.{w32}
 use mir.Val.{to_z, of_z, SFits}
 use mir.Facts.{to_z-of_z}
-use borrow.Author.Count.{below_more}
 use borrow.Author.Rules.{rules}
 use Rattle.numbers.proofs.TestLaws.{not_passed}
 use Rattle.types.specs.declared.vector.Vector.{Vector}
@@ -31,21 +29,10 @@ returns-then-v-s c =
     let a = c.args in
     sym (vectors_differ a.v a.s (λ e. c.if-v-s.true (ap (λ (u : Vector). of_z w32 u.b) e)))
 
-pub loop-place-init : goal.loop-place-init
-loop-place-init c = (omega arith, λ at h. absurd (omega arith))
-
 pub returns-then-v-place : goal.returns-then-v-place
 returns-then-v-place c =
     let a = c.args in
     sym (vectors_differ a.v a.s (λ e. c.if-v-place.true (ap (λ (u : Vector). of_z w32 (get_or u.a c.loop-place.place (pos 0))) e)))
-
-pub loop-place-preserved : goal.loop-place-preserved
-loop-place-preserved c =
-    (
-  omega arith,
-  below_more _ _ c.loop-place.invariant.1
-      (same_bits (record { sfits = c.t13-1.given }) (record { sfits = c.t17-1.given }) c.if-v-place.false),
-)
 
 pub returns : goal.returns
 returns c =

@@ -1,11 +1,9 @@
 -- `checked::gate_holds` meets its contract: what was read is a table, and the gate is checked against it. Assumes nothing.
-use mathlib.Core.Path.{◌≡◌, ◌∙◌, ap}
+use lib.IntN.{ℤ}
+use mathlib.Core.List.{List}
+use mathlib.Core.Path.{◌∙◌, ap}
 use Prim.Native.Nat.{ℕ}
 use native.Mathlib.Omega.{arith}
-use mir.Syntax.{w32, w64}
-use mir.Val.{to_z, of_z}
-use borrow.Author.Rules.{rules}
-use Rattle.numbers.proofs.Int.{back}
 use Rattle.types.specs.declared.table.Table.{Table}
 use Rattle.refusal.specs.Refusal.{Answered}
 use Rattle.codec.specs.Kind.{tables}
@@ -14,30 +12,26 @@ use Rattle.results.specs.Result.{as_result}
 use Rattle.arrays.specs.Arrays.{check_gate_with}
 use Rattle.requests.proofs.TakenLaws.{not_of, of_family, read_few}
 use Rattle.requests.proofs.checked.gate_holds.Goals as goal
-use Rattle.requests.proofs.checked.gate_holds.Goals.{Start}
 
 -- the part that it takes, and what comes after it
 abbrev part : Read → Table
 part r = r.table
 
-abbrev after : Start → Table → Answered ℕ
-after s t = check_gate_with t s.args.weights.now s.args.threshold
+abbrev after : List ℤ → ℤ → Table → Answered ℕ
+after weights threshold t = check_gate_with t weights threshold
 
 -- one that the call takes
 pub check_gate_with-requires : goal.check_gate_with-requires
 check_gate_with-requires c =
-    read_few c.args.bytes.now c.read-given.ensures
-    (λ i h. omega (arith, c.shared_slice_known-1.given i))
+    read_few c.args.bytes.now c.read-given.ensures (λ i h. omega (arith, c.type_inv.bytes i))
 
 pub returns-in-Table : goal.returns-in-Table
 returns-in-Table c =
-    let whole = of_family c.args.bytes.now c.read-given.ensures tables part (after (goal.at.returns-in-Table c).After-shared_slice_known-1) c.in-Table.is in
-    let held : to_z w32 (of_z w32 c.args.threshold) ≡ c.args.threshold = search rules in
-    let same = ap (check_gate_with c.read-given.result.table c.args.weights.now) held in
-    back w64 c.check_gate_with.type_inv ∙ c.check_gate_with.ensures ∙ ap as_result (same ∙ whole)
+    let whole = of_family c.args.bytes.now c.read-given.ensures tables part (after c.args.weights.now c.args.threshold) c.in-Table.is in
+    c.check_gate_with.ensures ∙ ap as_result whole
 
 -- another kind, or a refusal
 pub returns-in_default : goal.returns-in_default
 returns-in_default c =
-    let other = not_of c.args.bytes.now c.read-given.ensures tables part (after (goal.at.returns-in_default c).Start) c.in_default.in_default-own.keys2 in
-    back w64 c.not_taken.type_inv ∙ c.not_taken.ensures ∙ ap as_result other
+    let other = not_of c.args.bytes.now c.read-given.ensures tables part (after c.args.weights.now c.args.threshold) c.in_default.not-Table in
+    c.not_taken.ensures ∙ ap as_result other

@@ -1,12 +1,7 @@
 -- `given::gate_record` meets its contract: what was read is a table, and its record with the gate is written. Assumes nothing.
-use mathlib.Core.Path.{◌≡◌, ◌∙◌, ap}
 use native.Mathlib.Omega.{arith}
 use lib.ListN.{length}
 use lib.IntN.{ℤ}
-use mir.Syntax.{w32, w64}
-use mir.Val.{to_z, of_z}
-use borrow.Author.Rules.{rules}
-use Rattle.numbers.proofs.Int.{back}
 use Rattle.types.specs.declared.table.Table.{Table}
 use Rattle.refusal.specs.Refusal.{Answered}
 use Rattle.codec.specs.Kind.{tables}
@@ -17,32 +12,27 @@ use Prim.Native.Nat.{ℕ}
 use Rattle.arrays.specs.Arrays.{from_gate}
 use Rattle.requests.proofs.TakenLaws.{not_of, of_family, read_few}
 use Rattle.requests.proofs.given.gate_record.Goals as goal
-use Rattle.requests.proofs.given.gate_record.Goals.{Start}
 
 -- the part that it takes, and what comes after it
 abbrev part : Read → Table
 part r = r.table
 
-abbrev after : Start → Table → Answered (List ℕ)
-after s t = from_gate t s.args.weights.now s.args.threshold (length s.args.out.now)
+abbrev after : List ℤ → ℤ → List ℕ → Table → Answered (List ℕ)
+after weights threshold out t = from_gate t weights threshold (length out)
 
 -- another kind, or a refusal
 pub returns-in_default : goal.returns-in_default
 returns-in_default c =
     let a = c.args in
-    let other = not_of a.bytes.now c.read-given.ensures tables part (after (goal.at.returns-in_default c).Start) c.in_default.in_default-own.keys2 in
-    returned_refused a.out.now other (back w64 c.not_taken.type_inv ∙ c.not_taken.ensures)
+    let other = not_of a.bytes.now c.read-given.ensures tables part (after c.args.weights.now c.args.threshold c.args.out.now) c.in_default.not-Table in
+    returned_refused a.out.now other c.not_taken.ensures
 
 -- one that the call takes
 pub from_gate-requires : goal.from_gate-requires
 from_gate-requires c =
-    read_few c.args.bytes.now c.read-given.ensures
-    (λ i h. omega (arith, c.shared_slice_known-1.given i))
+    read_few c.args.bytes.now c.read-given.ensures (λ i h. omega (arith, c.type_inv.bytes i))
 
 pub returns : goal.returns
 returns c =
-    let whole = of_family c.args.bytes.now c.read-given.ensures tables part (after (goal.at.returns c).After-shared_slice_known-1) c.in-Table.is in
-    let held : to_z w32 (of_z w32 c.args.threshold) ≡ c.args.threshold = search rules in
-    let same = ap (λ (t : ℤ). from_gate c.read-given.result.table c.args.weights.now t (length c.args.out.now)) held in
-    let (r, b) = c.from_gate.ensures in
-    returned_as c.args.out.now (same ∙ whole) (back w64 c.from_gate.type_inv ∙ r, b)
+    let whole = of_family c.args.bytes.now c.read-given.ensures tables part (after c.args.weights.now c.args.threshold c.args.out.now) c.in-Table.is in
+    returned_as c.args.out.now whole c.from_gate.ensures

@@ -1,10 +1,6 @@
 -- `given::witness_record` meets its contract: what was read is a table, and its record with the witness is written. Assumes nothing.
-use mathlib.Core.Path.{◌∙◌}
 use native.Mathlib.Omega.{arith}
 use lib.ListN.{length}
-use mir.Syntax.{w64}
-use borrow.Author.Rules.{rules}
-use Rattle.numbers.proofs.Int.{back}
 use Rattle.types.specs.declared.table.Table.{Table}
 use Rattle.refusal.specs.Refusal.{Answered}
 use Rattle.codec.specs.Kind.{tables}
@@ -15,30 +11,27 @@ use Prim.Native.Nat.{ℕ}
 use Rattle.arrays.specs.Arrays.{from_witness}
 use Rattle.requests.proofs.TakenLaws.{not_of, of_family, read_few}
 use Rattle.requests.proofs.given.witness_record.Goals as goal
-use Rattle.requests.proofs.given.witness_record.Goals.{Start}
 
 -- the part that it takes, and what comes after it
 abbrev part : Read → Table
 part r = r.table
 
-abbrev after : Start → Table → Answered (List ℕ)
-after s t = from_witness t s.args.counts.now (length s.args.out.now)
+abbrev after : List ℕ → List ℕ → Table → Answered (List ℕ)
+after counts out t = from_witness t counts (length out)
 
 -- another kind, or a refusal
 pub returns-in_default : goal.returns-in_default
 returns-in_default c =
     let a = c.args in
-    let other = not_of a.bytes.now c.read-given.ensures tables part (after (goal.at.returns-in_default c).Start) c.in_default.in_default-own.keys2 in
-    returned_refused a.out.now other (back w64 c.not_taken.type_inv ∙ c.not_taken.ensures)
+    let other = not_of a.bytes.now c.read-given.ensures tables part (after c.args.counts.now c.args.out.now) c.in_default.not-Table in
+    returned_refused a.out.now other c.not_taken.ensures
 
 -- one that the call takes
 pub from_witness-requires : goal.from_witness-requires
 from_witness-requires c =
-    read_few c.args.bytes.now c.read-given.ensures
-    (λ i h. omega (arith, c.shared_slice_known-1.given i))
+    read_few c.args.bytes.now c.read-given.ensures (λ i h. omega (arith, c.type_inv.bytes i))
 
 pub returns : goal.returns
 returns c =
-    let whole = of_family c.args.bytes.now c.read-given.ensures tables part (after (goal.at.returns c).After-shared_slice_known-1) c.in-Table.is in
-    let (r, b) = c.from_witness.ensures in
-    returned_as c.args.out.now whole (back w64 c.from_witness.type_inv ∙ r, b)
+    let whole = of_family c.args.bytes.now c.read-given.ensures tables part (after c.args.counts.now c.args.out.now) c.in-Table.is in
+    returned_as c.args.out.now whole c.from_witness.ensures

@@ -1,10 +1,6 @@
 -- `jobs::fresh_record` meets its contract: what was read is a table that keeps its format, and what its fresh job has come to is written. Assumes nothing.
-use mathlib.Core.Path.{◌∙◌}
 use native.Mathlib.Omega.{arith}
 use lib.ListN.{length}
-use mir.Syntax.{w64}
-use borrow.Author.Rules.{rules}
-use Rattle.numbers.proofs.Int.{back}
 use Rattle.types.specs.declared.table.Table.{Table}
 use Rattle.refusal.specs.Refusal.{Answered}
 use Rattle.codec.specs.Kind.{tables}
@@ -16,30 +12,27 @@ use Rattle.job.specs.Machine.{fresh}
 use Rattle.outcome.specs.Outcome.{outcome_written}
 use Rattle.requests.proofs.TakenLaws.{not_of, of_family, read_kept}
 use Rattle.requests.proofs.jobs.fresh_record.Goals as goal
-use Rattle.requests.proofs.jobs.fresh_record.Goals.{Start}
 
 -- the part that it takes, and what comes after it
 abbrev part : Read → Table
 part r = r.table
 
-abbrev after : Start → Table → Answered (List ℕ)
-after s t = outcome_written (length s.args.out.now) (fresh t)
+abbrev after : List ℕ → Table → Answered (List ℕ)
+after out t = outcome_written (length out) (fresh t)
 
 -- another kind, or a refusal
 pub returns-in_default : goal.returns-in_default
 returns-in_default c =
     let a = c.args in
-    let other = not_of a.bytes.now c.read-given.ensures tables part (after (goal.at.returns-in_default c).Start) c.in_default.in_default-own.keys2 in
-    returned_refused a.out.now other (back w64 c.not_taken.type_inv ∙ c.not_taken.ensures)
+    let other = not_of a.bytes.now c.read-given.ensures tables part (after c.args.out.now) c.in_default.not-Table in
+    returned_refused a.out.now other c.not_taken.ensures
 
 -- one that the call takes
 pub fresh_job-requires : goal.fresh_job-requires
 fresh_job-requires c =
-    read_kept c.args.bytes.now c.read-given.ensures
-    (λ i h. omega (arith, c.shared_slice_known-1.given i))
+    read_kept c.args.bytes.now c.read-given.ensures (λ i h. omega (arith, c.type_inv.bytes i))
 
 pub returns : goal.returns
 returns c =
-    let whole = of_family c.args.bytes.now c.read-given.ensures tables part (after (goal.at.returns c).After-shared_slice_known-1) c.in-Table.is in
-    let (r, b) = c.fresh_job.ensures in
-    returned_as c.args.out.now whole (back w64 c.fresh_job.type_inv ∙ r, b)
+    let whole = of_family c.args.bytes.now c.read-given.ensures tables part (after c.args.out.now) c.in-Table.is in
+    returned_as c.args.out.now whole c.fresh_job.ensures

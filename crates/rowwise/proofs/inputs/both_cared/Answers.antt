@@ -1,7 +1,6 @@
 -- `inputs::both_cared` meets its contract: the second row is looked at where the first is cared for. Assumes nothing.
 use mathlib.Core.Path.{sym, ◌∙◌, ap}
 use mathlib.Core.Bool.{Bool, ◌&&◌}
-use borrow.Author.Rules.{rules}
 use Rattle.table.specs.Table.{bit_at}
 use Rattle.rowwise.proofs.inputs.both_cared.Goals as goal
 

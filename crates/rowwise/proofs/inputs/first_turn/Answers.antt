@@ -1,13 +1,9 @@
 -- `inputs::first_turn` meets its contract. The loop's invariant: no row below `row` turns. The measure is what is left of the rows.
 -- Assumes nothing.
-use mathlib.Core.Path.{◌≡◌, refl, sym, ◌∙◌, ap}
-use mathlib.Core.Bool.{false}
-use Prim.Native.Nat.{ℕ, ◌-◌, ◌≤◌, ◌<◌}
+use mathlib.Core.Path.{refl, sym, ◌∙◌, ap}
 use native.Mathlib.Omega.{arith}
 use borrow.Author.Count.{below_none, below_more}
-use borrow.Author.Rules.{rules}
 use Rattle.numbers.proofs.FirstLaws.{first_at, first_fails}
-use Rattle.types.specs.declared.table.Table.{Table}
 use Rattle.table.specs.Table.{rows, function_of}
 use Rattle.table.specs.Inputs.{lowest_of}
 use Rattle.function.specs.Turns.{turns_at}

@@ -1,7 +1,6 @@
 -- `inputs::input_kind_at` meets its contract: past n a place is idle, and else the two searches say the kind. Assumes nothing.
 use mathlib.Core.Path.{sym, ◌∙◌, ap, ap₂}
 use mathlib.Core.Bool.{true, false}
-use borrow.Author.Rules.{rules}
 use Rattle.table.specs.Inputs.{is_found, kind_by}
 use Rattle.function.specs.Turns.{first_turn}
 use Rattle.table.proofs.InputLaws.{is_found_lowest, input_kind_at_inside, input_kind_at_past}

@@ -5,7 +5,6 @@ use mathlib.Core.List.{List}
 use Prim.Native.Nat.{ℕ, ◌+◌, ◌*◌, ◌%◌, ◌^◌, ◌<◌}
 use native.Mathlib.Nat.{one-mul, mod-eq_of_lt}
 use native.Mathlib.Omega.{arith}
-use borrow.Author.Rules.{rules}
 use borrow.Author.Tests.{not-true, not-false}
 use Rattle.function.specs.Function.{level}
 use Rattle.numbers.specs.Tests.{same_bool}
@@ -45,14 +44,14 @@ pub returns-then-row_bit-to-2 : goal.returns-then-row_bit-to-2
 returns-then-row_bit-to-2 c t v k =
     let a = c.args in
     let own = same_bool_read a.to (c.row_bit.ensures ∙ ap (λ (bits : List ℕ). bit_at bits a.row) v) c.if-row_bit-to.false in
-    let partners = same_bool_read a.to (c.row_bit-2.ensures ∙ ap (λ (bits : List ℕ). bit_at bits (a.row + 1 * 2 ^ a.place % 2 ^ 64)) v) c.if-row_bit-to-2.true in
+    let partners = same_bool_read a.to (c.row_bit-2.ensures ∙ ap (λ (bits : List ℕ). bit_at bits (a.row + 1 * 2 ^ a.place % 2 ^ 64)) v) (not-true _ c.if-row_bit-to-2.true) in
     sym (turns_at_lacks t a.to a.place a.row (lacks (goal.at.returns-then-row_bit-to-2 c).Else-row-place-eq1) ∙ rw (own, ← shifted (goal.at.returns-then-row_bit-to-2 c).Else-row-place-eq1, partners))
 
 pub returns : goal.returns
 returns c t v k =
     let a = c.args in
     let own = same_bool_read a.to (c.row_bit.ensures ∙ ap (λ (bits : List ℕ). bit_at bits a.row) v) c.if-row_bit-to.false in
-    let partners = same_bool_read a.to (c.row_bit-2.ensures ∙ ap (λ (bits : List ℕ). bit_at bits (a.row + 1 * 2 ^ a.place % 2 ^ 64)) v) c.if-row_bit-to-2.false in
+    let partners = same_bool_read a.to (c.row_bit-2.ensures ∙ ap (λ (bits : List ℕ). bit_at bits (a.row + 1 * 2 ^ a.place % 2 ^ 64)) v) (not-false _ c.if-row_bit-to-2.false) in
     c.both_cared.ensures
     ∙ ap (λ (bits : List ℕ). bit_at bits a.row && bit_at bits (a.row + 1 * 2 ^ a.place % 2 ^ 64)) k
     ∙ ap (λ (p : ℕ). cared t a.row && cared t (a.row + p)) (shifted (goal.at.returns c).Else-row-place-eq1)
@@ -61,4 +60,5 @@ returns c t v k =
     (ap (λ (p : ℕ). same_bool (value t (a.row + p)) a.to) (sym (shifted (goal.at.returns c).Else-row-place-eq1)) ∙ partners))
 
 pub both_cared-requires : goal.both_cared-requires
-both_cared-requires c = (c.requires.1, row_bit-requires-2 (goal.at.both_cared-requires c).Else-row_bit-to κs)
+both_cared-requires c =
+    let e = (goal.at.both_cared-requires c).Else-row-place-eq1 in (c.requires.1, rw (shifted e) (partner e))

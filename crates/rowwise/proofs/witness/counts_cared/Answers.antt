@@ -1,18 +1,10 @@
 -- `witness::counts_cared` meets its contract. The loop's invariant: the rows below `row` are cared for or have no count. The measure is the number
 -- of rows left. Assumes nothing.
-use mathlib.Core.Path.{◌≡◌, sym, ◌∙◌, ap}
-use mathlib.Core.Bool.{Bool, true, false, ◌||◌}
-use mathlib.Core.List.{List}
-use Prim.Native.Nat.{ℕ, ◌-◌, ◌≤◌, ◌<◌}
+use mathlib.Core.Path.{◌≡◌, sym, ◌∙◌}
+use Prim.Native.Nat.{◌<◌}
 use native.Mathlib.Omega.{arith}
-use lib.Dec.{eqb}
-use borrow.Author.Rules.{rules}
-use borrow.Author.Tests.{not-true, not-false}
-use Rattle.numbers.specs.Tests.{all_below}
-use Rattle.numbers.proofs.TestLaws.{all_below_zero, all_below_more, all_below_from, all_below_fails}
-use Rattle.types.specs.declared.table.Table.{Table}
-use Rattle.function.specs.Witness.{count_of, counts_cared}
-use Rattle.table.specs.Table.{rows, cared, function_of}
+use Rattle.numbers.proofs.TestLaws.{all_below_zero, all_below_more}
+use Rattle.table.specs.Table.{rows}
 use Rattle.table.proofs.TableLaws.{rows_le}
 use Rattle.rowwise.proofs.witness.counts_cared.Goals as goal
 use Rattle.rowwise.proofs.witness.counts_cared.Goals.{In-loop-row}
@@ -45,10 +37,10 @@ returns c =
     sym (cared_all a.table a.counts.now (rw end at c.loop-row.invariant.1))
 
 pub offset_bounds-counts-row : goal.offset_bounds-counts-row
-offset_bounds-counts-row c = omega (arith, inside c)
+offset_bounds-counts-row c = omega (arith, inside (goal.at.offset_bounds-counts-row c).In-loop-row)
 
 pub bounds-counts-row : goal.bounds-counts-row
-bounds-counts-row c = inside c
+bounds-counts-row c = inside (goal.at.bounds-counts-row c).In-loop-row
 
 pub may_count-requires : goal.may_count-requires
-may_count-requires c = inside (goal.at.may_count-requires c).After-way_told-1
+may_count-requires c = inside (goal.at.may_count-requires c).In-loop-row

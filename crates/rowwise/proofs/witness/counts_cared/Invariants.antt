@@ -1,19 +1,15 @@
 -- `witness::counts_cared` meets its contract. The loop's invariant: the rows below `row` are cared for or have no count. The measure is the number
 -- of rows left. Assumes nothing.
-use mathlib.Core.Path.{◌≡◌, sym, ◌∙◌, ap}
+use mathlib.Core.Path.{◌≡◌, ap}
 use mathlib.Core.Bool.{Bool, true, false, ◌||◌}
 use mathlib.Core.List.{List}
 use Prim.Native.Nat.{ℕ, ◌-◌, ◌≤◌, ◌<◌}
-use native.Mathlib.Omega.{arith}
 use lib.Dec.{eqb}
-use borrow.Author.Rules.{rules}
-use borrow.Author.Tests.{not-true, not-false}
 use Rattle.numbers.specs.Tests.{all_below}
-use Rattle.numbers.proofs.TestLaws.{all_below_zero, all_below_more, all_below_from, all_below_fails}
+use Rattle.numbers.proofs.TestLaws.{all_below_from, all_below_fails}
 use Rattle.types.specs.declared.table.Table.{Table}
 use Rattle.function.specs.Witness.{count_of, counts_cared}
 use Rattle.table.specs.Table.{rows, cared, function_of}
-use Rattle.table.proofs.TableLaws.{rows_le}
 use Rattle.rowwise.proofs.witness.counts_cared.Given as goal
 
 module _ (t : Table) (counts : List ℕ) where

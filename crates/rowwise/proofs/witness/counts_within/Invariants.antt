@@ -1,12 +1,9 @@
 -- `witness::counts_within` meets its contract. The loop's invariant: from `row` on the counts are within the limit exactly if they are
 -- from `from` on. The measure is what is left of the 256 rows. Assumes nothing.
-use mathlib.Core.Path.{◌≡◌, sym, ◌∙◌}
+use mathlib.Core.Path.{◌≡◌}
 use Prim.Native.Nat.{◌-◌, ◌≤◌}
-use native.Mathlib.Omega.{arith}
-use borrow.Author.Rules.{rules}
 use lib.ListN.{drop}
 use Rattle.numbers.specs.Tests.{all_at_most}
-use Rattle.numbers.proofs.TestLaws.{all_at_most_end, all_at_most_next, all_at_most_fails}
 use Rattle.rowwise.proofs.witness.counts_within.Given as goal
 
 abbrev pub invariant-loop-row : goal.invariant-loop-row

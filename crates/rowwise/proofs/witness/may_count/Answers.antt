@@ -1,7 +1,6 @@
 -- `witness::may_count` meets its contract: a count of 0 may stand on any row, and the care of the row decides for another. Assumes nothing.
 use mathlib.Core.Path.{sym, ◌∙◌, ap}
 use mathlib.Core.Bool.{Bool, ◌||◌, or-true, or-false}
-use borrow.Author.Rules.{rules}
 use borrow.Author.Tests.{eq-eqb, ne_eqb}
 use Rattle.table.specs.Table.{cared}
 use Rattle.rowwise.proofs.witness.may_count.Goals as goal

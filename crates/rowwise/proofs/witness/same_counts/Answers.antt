@@ -1,16 +1,9 @@
 -- `witness::same_counts` meets its contract. The loop's invariant: the counts of the rows below `row` are the same. The measure is what is
 -- left of the 256 rows. Assumes nothing.
 use mathlib.Core.Path.{◌≡◌, sym}
-use mathlib.Core.Bool.{Bool, true, false}
-use mathlib.Core.List.{List}
-use Prim.Native.Nat.{ℕ, ◌-◌, ◌≤◌, ◌<◌}
 use native.Mathlib.Omega.{arith}
-use lib.Dec.{eqb}
-use lib.ListN.{get_or}
 use borrow.Author.Tests.{eq-eqb, ne_eqb}
-use Rattle.numbers.specs.Tests.{all_below}
-use Rattle.numbers.proofs.TestLaws.{all_below_zero, all_below_more, all_below_fails}
-use Rattle.function.specs.Witness.{same_counts}
+use Rattle.numbers.proofs.TestLaws.{all_below_zero, all_below_more}
 use Rattle.rowwise.proofs.witness.same_counts.Goals as goal
 use Rattle.rowwise.proofs.witness.same_counts.Invariants.{differ_at, same_by_all}
 

@@ -3,7 +3,6 @@ use mathlib.Core.Path.{ap}
 use mathlib.Core.Bool.{not}
 use native.Mathlib.Omega.{arith}
 use borrow.Author.Rules.{rules}
-use borrow.Author.Tests.{not-true, not-false}
 use Rattle.table.specs.Witness.{unfit}
 use Rattle.table.proofs.TableLaws.{rows_le}
 use Rattle.rowwise.proofs.witness.witness_unfit.Goals as goal
@@ -19,7 +18,7 @@ returns-then-not-counts_within c =
       ← c.counts_within.ensures,
       c.if-counts_within.false,
       ← c.counts_within-2.ensures,
-      not-true c.counts_within-2.result c.if-not-counts_within.true,
+      c.if-not-counts_within.true,
     )
 
 pub counts_within-requires-3 : goal.counts_within-requires-3
@@ -32,7 +31,7 @@ returns c =
       ← c.counts_within.ensures,
       c.if-counts_within.false,
       ← c.counts_within-2.ensures,
-      not-false c.counts_within-2.result c.if-not-counts_within.false,
+      c.if-not-counts_within.false,
       ← c.row_count.ensures,
     )
     (ap not c.counts_within-3.ensures)

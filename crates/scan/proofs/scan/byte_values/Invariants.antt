@@ -1,11 +1,8 @@
 -- `scan::byte_values` meets its contract. The loop's invariant: the rows of the bytes before `byte` have their values. The measure is the
 -- number of bytes left. Assumes nothing.
-use mathlib.Core.Path.{◌≡◌, ◌∙◌, ap}
-use Prim.Native.Nat.{ℕ, ◌*◌, ◌-◌, ◌≤◌}
-use native.Mathlib.Omega.{arith}
-use borrow.Author.Rules.{rules}
+use mathlib.Core.Path.{◌≡◌}
+use Prim.Native.Nat.{◌*◌, ◌-◌, ◌≤◌}
 use Rattle.scan.specs.Scan.{values_below}
-use Rattle.scan.proofs.ValueLaws.{values_none}
 use Rattle.scan.proofs.scan.byte_values.Given as goal
 
 abbrev pub invariant-loop-byte : goal.invariant-loop-byte

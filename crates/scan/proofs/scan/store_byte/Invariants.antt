@@ -1,16 +1,8 @@
 -- `scan::store_byte` meets its contract. The loop's invariant: the rows before bit `bit` of the byte have their values. The measure is the
 -- number of bits left. Assumes nothing.
-use mathlib.Core.Path.{◌≡◌, ◌∙◌, ap, ap₂}
-use mathlib.Core.Bool.{Bool}
-use mathlib.Core.List.{List}
-use Prim.Native.Nat.{ℕ, ◌+◌, ◌*◌, ◌-◌, ◌≤◌}
-use native.Mathlib.Nat.{add_assoc, add-zero}
-use native.Mathlib.Omega.{arith}
-use borrow.Author.Rules.{rules}
-use lib.ListN.{set}
-use Rattle.table.proofs.RowLaws.{byte_bit}
+use mathlib.Core.Path.{◌≡◌}
+use Prim.Native.Nat.{◌+◌, ◌*◌, ◌-◌, ◌≤◌}
 use Rattle.scan.specs.Scan.{values_below}
-use Rattle.scan.proofs.ValueLaws.{values_more, values_skip}
 use Rattle.scan.proofs.scan.store_byte.Given as goal
 
 abbrev pub invariant-loop-bit : goal.invariant-loop-bit

@@ -4,9 +4,8 @@
 use mathlib.Core.Path.{◌≡◌, sym, ◌∙◌, ap₂}
 use mathlib.Core.Bool.{Bool, true, false, ◌&&◌}
 use mathlib.Core.Logic.{◌↔◌}
-use Prim.Native.Nat.{ℕ, suc, ◌+◌, ◌-◌, ◌≤◌, ◌<◌}
+use Prim.Native.Nat.{ℕ, suc, ◌≤◌, ◌<◌}
 use native.Mathlib.Omega.{arith}
-use lib.ListN.{get_or}
 use borrow.Author.Count.{below_none, below_more}
 use borrow.Author.Rules.{rules}
 use borrow.Author.Tests.{eq-eqb, lt-ltb}
@@ -20,6 +19,7 @@ use Rattle.table.specs.Table.{function_of}
 use Rattle.table.specs.Witness.{CountArray}
 use Rattle.table.proofs.WitnessLaws.{count_array}
 use Rattle.sides.proofs.SideLaws.{sum_at}
+use Rattle.types.specs.declared.witness.Witness.{Witness}
 use Rattle.sides.proofs.balance.is_balanced.Goals as goal
 use Rattle.sides.proofs.balance.is_balanced.Goals.{After-counts_cared-cared, After-side_sums-falses, Start}
 
@@ -32,19 +32,7 @@ same_balances f count above same =
     (lt-ltb _ _ above)
     (all_below_from (suc f.places) _ (λ i h. eq-eqb _ _ (same i (omega arith))))
 
-module _ (c : After-counts_cared-cared) where
-  abbrev summed : After-side_sums-falses
-  summed = c.before.before.before
-
-  abbrev start : Start
-  start = summed.before.before.before.before.before.before
-
-  abbrev table : Table
-  table = start.args.table
-
-  abbrev witness : Witness
-  witness = start.args.t2
-
+module _ (table : Table) (witness : Witness) where
   abbrev total : Bool → ℕ → ℕ
   total side = side_sum (function_of table) side (count_of witness.counts)
 
@@ -55,35 +43,31 @@ module _ (c : After-counts_cared-cared) where
   says : tested ≡ true ↔ Balances (function_of table) (count_of witness.counts)
   says = balances_correct (function_of table) (count_of witness.counts)
 
-  -- the sums that the calls gave
-  true_is : (i : ℕ) → i < 9 → get_or summed.before.before.before.side-sums.result i 0 ≡ total true i
-  true_is i h = sum-at (total true) i summed.before.before.before.side-sums.ensures h
-
-  false_is : (i : ℕ) → i < 9 → get_or summed.side-sums2.result i 0 ≡ total false i
-  false_is i h = sum-at (total false) i summed.side-sums2.ensures h
-
 -- the counts are lent
 counts_lent : (c : Start) → CountArray c.args.witness.counts
 counts_lent c = count_array (search rules) (λ r. search rules)
 
 pub returns-then-trues-eq0 : goal.returns-then-trues-eq0
 returns-then-trues-eq0 c =
-    sym
-    (not_passed (tested (goal.at.returns-then-trues-eq0 c).After-counts_cared-cared)
-    (λ e. omega (arith, ((says (goal.at.returns-then-trues-eq0 c).After-counts_cared-cared).0 e).above, true_is (goal.at.returns-then-trues-eq0 c).After-counts_cared-cared 0 (omega arith))))
+    let t = c.args.table in
+    let w = c.args.witness in
+    let trues = sum_at (total t w true) 0 c.side_sums-trues.ensures (omega arith) in
+    sym (not_passed (tested t w) (λ e. omega (arith, ((says t w).0 e).above, trues)))
 
 pub loop-input-init : goal.loop-input-init
 loop-input-init c = (omega arith, omega arith, below_none _)
 
 pub returns-then-trues-input : goal.returns-then-trues-input
 returns-then-trues-input c =
+    let t = c.args.table in
+    let w = c.args.witness in
     let i = c.loop-input.input in
     sym
-    (not_passed (tested (goal.at.returns-then-trues-input c).After-counts_cared-cared)
+    (not_passed (tested t w)
     (λ e. c.if-trues-input.true
-    (true_is (goal.at.returns-then-trues-input c).After-counts_cared-cared i (omega arith)
-    ∙ side_sums_equal ((says (goal.at.returns-then-trues-input c).After-counts_cared-cared).0 e) i (omega arith)
-    ∙ sym (false_is (goal.at.returns-then-trues-input c).After-counts_cared-cared i (omega arith)))))
+    (sum_at (total t w true) i c.side_sums-trues.ensures (omega arith)
+    ∙ side_sums_equal ((says t w).0 e) i (omega arith)
+    ∙ sym (sum_at (total t w false) i c.side_sums-falses.ensures (omega arith)))))
 
 pub loop-input-preserved : goal.loop-input-preserved
 loop-input-preserved c =
@@ -92,10 +76,15 @@ loop-input-preserved c =
 
 pub returns : goal.returns
 returns c =
-    let same : (i : ℕ) → i ≤ (table (goal.at.returns c).After-counts_cared-cared).n → total (goal.at.returns c).After-counts_cared-cared true i ≡ total (goal.at.returns c).After-counts_cared-cared false i =
-    λ i h. sym (true_is (goal.at.returns c).After-counts_cared-cared i (omega arith)) ∙ c.loop-input.invariant.2 i (omega arith) ∙ false_is (goal.at.returns c).After-counts_cared-cared i (omega arith) in
+    let t = c.args.table in
+    let w = c.args.witness in
+    let trues = sum_at (total t w true) 0 c.side_sums-trues.ensures (omega arith) in
+    let same : (i : ℕ) → i ≤ t.n → total t w true i ≡ total t w false i =
+    λ i h. sym (sum_at (total t w true) i c.side_sums-trues.ensures (omega arith))
+    ∙ c.loop-input.invariant.2 i (omega arith)
+    ∙ sum_at (total t w false) i c.side_sums-falses.ensures (omega arith) in
     c.counts_cared-cared.ensures
-    ∙ sym (same_balances (function_of (table (goal.at.returns c).After-counts_cared-cared)) (count_of (witness (goal.at.returns c).After-counts_cared-cared).counts) (omega (arith, c.if-trues-eq0.false, true_is (goal.at.returns c).After-counts_cared-cared 0 (omega arith))) same)
+    ∙ sym (same_balances (function_of t) (count_of w.counts) (omega (arith, c.if-trues-eq0.false, trues)) same)
 
 pub side_sums-trues-requires : goal.side_sums-trues-requires
 side_sums-trues-requires c = (c.requires, counts_lent (goal.at.side_sums-trues-requires c).Start)

@@ -2,7 +2,7 @@
 -- came. The measure is what is left of the nine sums. Assumes nothing.
 use mathlib.Core.Path.{◌≡◌, ◌∙◌, ap, ap₂}
 use mathlib.Core.List.{List, ◌++◌}
-use Prim.Native.Nat.{ℕ, zero, suc, ◌+◌, ◌*◌, ◌-◌, ◌/◌, ◌%◌, ◌^◌, ◌≤◌, ◌<◌}
+use Prim.Native.Nat.{ℕ, zero, suc, ◌+◌, ◌*◌, ◌/◌, ◌%◌, ◌^◌, ◌<◌}
 use native.Mathlib.Numerals.{one-add}
 use native.Mathlib.Omega.{arith}
 use lib.ListN.{length, get_or, drop}
@@ -52,41 +52,14 @@ pub overflow_add-sums : goal.overflow_add-sums
 overflow_add-sums c =
     let a = c.args in
     let input = c.loop-input.input in
-    rw (sum_is (goal.at.overflow_add-sums c).After-way_told-1) (omega (arith, count_level_le a.count a.row input, c.requires.3 input (omega arith)))
+    rw (sum_is (goal.at.overflow_add-sums c).In-loop-input) (omega (arith, count_level_le a.count a.row input, c.requires.3 input (omega arith)))
 
 pub loop-input-preserved : goal.loop-input-preserved
 loop-input-preserved c =
     let head = c.loop-input in
-    (omega arith, filled_more _ c.args.sums.now head.input (omega (arith, c.requires.2)) head.invariant.1 (sum_is (goal.at.loop-input-preserved c).After-way_told-1))
+    (omega arith, filled_more _ c.args.sums.now head.input (omega (arith, c.requires.2)) head.invariant.1 (sum_is (goal.at.loop-input-preserved c).In-loop-input))
 
 pub returns : goal.returns
 returns c =
     let head = c.loop-input in
     filled_all _ c.args.sums.now head.input 9 (omega arith) (omega (arith, c.requires.2)) head.invariant.1
-
-pub overflow_mul-levels : goal.overflow_mul-levels
-overflow_mul-levels c = omega arith
-
-pub overflow_add-levels : goal.overflow_add-levels
-overflow_add-levels c = omega arith
-
-pub offset_bounds-sums-input : goal.offset_bounds-sums-input
-offset_bounds-sums-input c = omega arith
-
-pub bounds-sums-input : goal.bounds-sums-input
-bounds-sums-input c = omega arith
-
-pub overflow_shr-sums : goal.overflow_shr-sums
-overflow_shr-sums c = omega arith
-
-pub offset_bounds-sums-input-in-loop-input : goal.offset_bounds-sums-input-in-loop-input
-offset_bounds-sums-input-in-loop-input c = omega arith
-
-pub bounds-sums-input-in-loop-input : goal.bounds-sums-input-in-loop-input
-bounds-sums-input-in-loop-input c = omega arith
-
-pub overflow_add-input : goal.overflow_add-input
-overflow_add-input c = omega arith
-
-pub loop-input-smaller : goal.loop-input-smaller
-loop-input-smaller c = omega arith

@@ -5,7 +5,6 @@ use mathlib.Core.List.{List}
 use Prim.Native.Nat.{ℕ, ◌+◌, ◌*◌}
 use native.Mathlib.Omega.{arith}
 use lib.ListN.{length, get_or}
-use borrow.Author.Rules.{rules}
 use borrow.Author.Tests.{not-true, not-false}
 use Rattle.numbers.specs.Tests.{same_bool}
 use Rattle.numbers.specs.Tabulate.{tabulate}
@@ -39,7 +38,7 @@ returns-then-count-eq0 c =
 pub returns-then-row_bit-side : goal.returns-then-row_bit-side
 returns-then-row_bit-side c =
     let a = c.args in
-    let other = same_bool_read a.side c.row_bit.ensures c.if-row_bit-side.true in
+    let other = same_bool_read a.side c.row_bit.ensures (not-true _ c.if-row_bit-side.true) in
     sums_kept a.sums.now (same_bool (bit_at a.values.now a.row) a.side) a.row a.count c.requires.1 (λ i. rw other)
 
 pub add_levels-requires : goal.add_levels-requires
@@ -48,5 +47,5 @@ add_levels-requires c = (c.requires.0, c.ranges.count.fits, c.requires.1, c.requ
 pub returns : goal.returns
 returns c =
     let a = c.args in
-    let same = same_bool_read a.side c.row_bit.ensures c.if-row_bit-side.false in
+    let same = same_bool_read a.side c.row_bit.ensures (not-false _ c.if-row_bit-side.false) in
     c.add_levels.ensures ∙ ap (λ (of : Bool). sums_with a.sums.now of a.row a.count) (sym same)

@@ -1,9 +1,5 @@
 -- `jobs::threshold_carry_on` meets its contract: what was read is a job, which is carried on. Assumes nothing.
-use mathlib.Core.Path.{◌∙◌}
 use lib.ListN.{length}
-use mir.Syntax.{w64}
-use borrow.Author.Rules.{rules}
-use Rattle.numbers.proofs.Int.{back}
 use Rattle.handed.specs.Handed.{carried_back}
 use Rattle.handed.proofs.HandedLaws.{handed_as, handed_refused}
 use Rattle.threshold.specs.Interface.{carried_on}
@@ -17,8 +13,8 @@ pub returns-in_default : goal.returns-in_default
 unfolding carried_on
 returns-in_default c =
     let a = c.args in
-    let other = not_of a.bytes.now c.read-given.ensures jobs (λ (r : Read). r.job) (carried_back a.budget (length a.out.now)) c.in_default.in_default-own.keys2 in
-    handed_refused a.out.now a.made.now other (back w64 c.not_taken.type_inv ∙ c.not_taken.ensures)
+    let other = not_of a.bytes.now c.read-given.ensures jobs (λ (r : Read). r.job) (carried_back a.budget (length a.out.now)) c.in_default.not-Job in
+    handed_refused a.out.now a.made.now other c.not_taken.ensures
 
 -- a job
 pub returns : goal.returns
@@ -26,5 +22,4 @@ unfolding carried_on
 returns c =
     let a = c.args in
     let whole = of_family a.bytes.now c.read-given.ensures jobs (λ (r : Read). r.job) (carried_back a.budget (length a.out.now)) c.in-Job.is in
-    let ((r, b), made) = c.carry_job.ensures in
-    handed_as a.out.now a.made.now whole ((back w64 c.carry_job.type_inv ∙ r, b), made)
+    handed_as a.out.now a.made.now whole c.carry_job.ensures

@@ -1,10 +1,6 @@
 -- `jobs::threshold_decide` meets its contract: what was read is a table that keeps its format, which is decided. Assumes nothing.
-use mathlib.Core.Path.{◌∙◌}
 use native.Mathlib.Omega.{arith}
 use lib.ListN.{length}
-use mir.Syntax.{w64}
-use borrow.Author.Rules.{rules}
-use Rattle.numbers.proofs.Int.{back}
 use Rattle.handed.specs.Handed.{decided_back}
 use Rattle.handed.proofs.HandedLaws.{handed_as, handed_refused}
 use Rattle.codec.specs.Kind.{tables}
@@ -16,18 +12,16 @@ use Rattle.threshold.proofs.jobs.threshold_decide.Goals as goal
 pub returns-in_default : goal.returns-in_default
 returns-in_default c =
     let a = c.args in
-    let other = not_of a.bytes.now c.read-given.ensures tables (λ (r : Read). r.table) (decided_back (length a.out.now)) c.in_default.in_default-own.keys2 in
-    handed_refused a.out.now a.made.now other (back w64 c.not_taken.type_inv ∙ c.not_taken.ensures)
+    let other = not_of a.bytes.now c.read-given.ensures tables (λ (r : Read). r.table) (decided_back (length a.out.now)) c.in_default.not-Table in
+    handed_refused a.out.now a.made.now other c.not_taken.ensures
 
 -- a table
 pub decide_table-requires : goal.decide_table-requires
 decide_table-requires c =
-    read_kept c.args.bytes.now c.read-given.ensures
-    (λ i h. omega (arith, c.shared_slice_known-1.given i))
+    read_kept c.args.bytes.now c.read-given.ensures (λ i h. omega (arith, c.type_inv.bytes i))
 
 pub returns : goal.returns
 returns c =
     let a = c.args in
     let whole = of_family a.bytes.now c.read-given.ensures tables (λ (r : Read). r.table) (decided_back (length a.out.now)) c.in-Table.is in
-    let ((r, b), made) = c.decide_table.ensures in
-    handed_as a.out.now a.made.now whole ((back w64 c.decide_table.type_inv ∙ r, b), made)
+    handed_as a.out.now a.made.now whole c.decide_table.ensures

@@ -4,12 +4,11 @@ use Prim.Native.Nat.{ℕ, ◌+◌, ◌/◌}
 use native.Mathlib.Omega.{arith}
 use lib.Dec.{ltb}
 use lib.ListN.{length}
-use borrow.Author.Rules.{rules}
 use Rattle.table.proofs.TableLaws.{rows_le}
 use Rattle.words.proofs.words.few_words.Goals as goal
 
 pub overflow_add-result : goal.overflow_add-result
-overflow_add-result c = record { fits = omega (arith, c.row_count.ensures, rows_le c.requires) }
+overflow_add-result c = omega (arith, rows_le c.requires)
 
 pub returns : goal.returns
 returns c = ap (λ (rows : ℕ). ltb (length c.args.words.now) ((rows + 63) / 64)) c.row_count.ensures

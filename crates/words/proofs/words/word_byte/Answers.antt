@@ -2,7 +2,6 @@
 use mathlib.Core.Path.{◌∙◌, ap}
 use Prim.Native.Nat.{ℕ}
 use native.Mathlib.Omega.{arith}
-use borrow.Author.Rules.{rules}
 use Rattle.numbers.specs.Packed.{bit_in}
 use Rattle.table.proofs.RowLaws.{row_byte_lem}
 use Rattle.words.specs.Words.{word_row}

@@ -1,12 +1,11 @@
 -- `words::word_bytes` meets its contract. The loop's invariant: the bytes of the rows below `at` are stored into zeros. The measure is what is left of
 -- the table's bytes. Assumes nothing.
 use mathlib.Core.Path.{◌≡◌, ◌∙◌}
-use Prim.Native.Nat.{◌-◌, ◌*◌, ◌≤◌, ◌<◌}
+use Prim.Native.Nat.{◌*◌, ◌<◌}
 use native.Mathlib.Omega.{arith}
 use lib.ListN.{replicate}
-use borrow.Author.Rules.{rules}
-use Rattle.numbers.proofs.TabulateLaws.{filled, filled_none, filled_more}
-use Rattle.table.specs.Table.{rows_of, row_byte}
+use Rattle.numbers.proofs.TabulateLaws.{filled_none, filled_more}
+use Rattle.table.specs.Table.{rows_of}
 use Rattle.table.proofs.TableLaws.{bytes_le}
 use Rattle.table.proofs.RowLaws.{rows_made}
 use Rattle.words.specs.Words.{word_row}

@@ -2,20 +2,20 @@
 use mathlib.Core.Path.{◌≡◌, sym, ◌∙◌, ap}
 use mathlib.Core.Bool.{not}
 use mathlib.Core.List.{List, [], ◌∷◌}
-use borrow.Author.Rules.{rules}
 use borrow.Author.Tests.{eq-eqb, ne_eqb}
 use Rattle.types.specs.declared.table.Table.{Table}
 use Rattle.types.specs.declared.gate.Gate.{Gate}
 use Rattle.refusal.specs.Refusal.{Rule, Answered, answered, checked}
 use Rattle.refusal.specs.Answers.{status}
+use Rattle.refusal.specs.declared.refusal.Status.{Status}
+use Rattle.refusal.specs.declared.refusal.Status.TheVariants as Status'
 use Rattle.cell.specs.Calls.{gate_range}
 use Rattle.refusal.specs.TableRules.{table_rules}
 use Rattle.refusal.proofs.RefusalLaws.{rule_broken, rule_kept}
 use Rattle.refusal.proofs.StatusLaws.{rules_refused, rules_passed}
 use Rattle.records.specs.Record.{of_gate}
-use Rattle.writers.specs.Calls.{uncared_row, record_checked}
+use Rattle.writers.specs.Calls.{uncared_row, whole_checked, record_checked}
 use Rattle.writers.proofs.write.gate_kept.Goals as goal
-use Rattle.writers.proofs.write.gate_kept.Goals.{Else-gate-table, In_default}
 
 -- the rules that `whole_status` tests, and those of the gate behind them
 abbrev first : Table → List Rule
@@ -36,24 +36,27 @@ returns-then-gate-table c =
     ap status (rule_broken 2 (after_inputs a.table a.gate) done (ap not (ne_eqb _ _ c.if-gate-table.true)))
 
 -- past the gate's n
-same_inputs : (c : Else-gate-table) {next : Answered (Unit {0})} → let a = c.args in next ≡ checked (after_inputs a.table a.gate) done → status next ≡ status (record_checked (of_gate a.table a.gate))
-same_inputs c e =
-    let a = c.args in
-    ap status (e ∙ rule_kept 2 (after_inputs a.table a.gate) done (ap not (eq-eqb _ _ c.if-gate-table.false)))
+same_inputs : (t : Table) (g : Gate) → g.n ≡ t.n → {next : Answered (Unit {0})} → next ≡ checked (after_inputs t g) done
+    → status next ≡ status (record_checked (of_gate t g))
+same_inputs t g same e = ap status (e ∙ rule_kept 2 (after_inputs t g) done (ap not (eq-eqb _ _ same)))
 
 pub returns-in-Refused : goal.returns-in-Refused
 returns-in-Refused c =
     let a = c.args in
-    same_inputs (goal.at.returns-in-Refused c).Else-gate-table (rules_refused (first a.table) c.whole_status-status.ensures (checked (others a.gate) done) c.in-Refused.is)
+    same_inputs a.table a.gate c.if-gate-table.false
+    (rules_refused (first a.table) c.whole_status-status.ensures (checked (others a.gate) done) c.in-Refused.is)
 
 -- past the table's rules
-passed : (c : In_default) {next : Answered (Unit {0})} → let a = c.args in next ≡ checked (others a.gate) done → status next ≡ status (record_checked (of_gate a.table a.gate))
-passed c e =
-    let a = c.args in
-    same_inputs c.before.before.before (e ∙ rules_passed (first a.table) c.whole_status-status.ensures (checked (others a.gate) done) c.in_default.is)
+passed : (t : Table) (g : Gate) → g.n ≡ t.n → {s : Status} → s ≡ status (whole_checked t) → s ≡ Status'.Done → {next : Answered (Unit {0})}
+    → next ≡ checked (others g) done → status next ≡ status (record_checked (of_gate t g))
+passed t g same says kept e = same_inputs t g same (e ∙ rules_passed (first t) says (checked (others g) done) kept)
 
 pub returns-then-gate_beyond : goal.returns-then-gate_beyond
-returns-then-gate_beyond c = passed (goal.at.returns-then-gate_beyond c).In_default (rule_broken 7 [] done (sym c.gate_beyond.ensures ∙ c.if-gate_beyond.true))
+returns-then-gate_beyond c =
+    passed c.args.table c.args.gate c.if-gate-table.false c.whole_status-status.ensures c.in_default.is
+    (rule_broken 7 [] done (sym c.gate_beyond.ensures ∙ c.if-gate_beyond.true))
 
 pub returns : goal.returns
-returns c = passed (goal.at.returns c).In_default (rule_kept 7 [] done (sym c.gate_beyond.ensures ∙ c.if-gate_beyond.false))
+returns c =
+    passed c.args.table c.args.gate c.if-gate-table.false c.whole_status-status.ensures c.in_default.is
+    (rule_kept 7 [] done (sym c.gate_beyond.ensures ∙ c.if-gate_beyond.false))

@@ -1,7 +1,6 @@
 -- `writers::write::kind_for` meets its contract: the test picks the kind. Assumes nothing.
 use mathlib.Core.Path.{sym, ◌∙◌, ap}
 use mathlib.Core.Bool.{Bool, not, cond}
-use borrow.Author.Rules.{rules}
 use Rattle.writers.proofs.write.kind_for.Goals as goal
 
 pub returns-then-is_whole : goal.returns-then-is_whole

@@ -1,15 +1,17 @@
 -- `writers::write::save_status` meets its contract: the job's rules by `job_status`, then that it has not ended. Assumes nothing.
 use mathlib.Core.Path.{◌≡◌, sym, ◌∙◌, ap}
 use mathlib.Core.List.{[], ◌∷◌}
-use borrow.Author.Rules.{rules}
 use Rattle.refusal.specs.Refusal.{Answered, answered, checked}
 use Rattle.refusal.specs.Answers.{status}
+use Rattle.refusal.specs.declared.refusal.Status.{Status}
+use Rattle.refusal.specs.declared.refusal.Status.TheVariants as Status'
+use Rattle.job.specs.declared.job.Job.{Job}
+use Rattle.job.specs.Calls.{job_rules}
 use Rattle.refusal.proofs.RefusalLaws.{rule_broken, rule_kept}
 use Rattle.job.proofs.JobChecked.{job_refused, job_passed}
 use Rattle.records.specs.Record.{of_job}
 use Rattle.writers.specs.Calls.{has_ended, record_checked}
 use Rattle.writers.proofs.write.save_status.Goals as goal
-use Rattle.writers.proofs.write.save_status.Goals.{In_default}
 
 pub returns-in-Refused : goal.returns-in-Refused
 returns-in-Refused c =
@@ -17,13 +19,14 @@ returns-in-Refused c =
     ap status (job_refused j c.job_status-status.ensures (has_ended j ∷ []) (answered tt) c.in-Refused.is)
 
 -- past the job's rules
-passed : (c : In_default) {a : Answered (Unit {0})} → let j = c.args.job in a ≡ checked (has_ended j ∷ []) (answered tt) → a ≡ record_checked (of_job j)
-passed c e =
-    let j = c.args.job in
-    e ∙ job_passed j c.job_status-status.ensures (has_ended j ∷ []) (answered tt) c.in_default.is
+passed : (j : Job) {s : Status} → s ≡ status (checked (job_rules j []) (answered tt)) → s ≡ Status'.Done → {a : Answered (Unit {0})}
+    → a ≡ checked (has_ended j ∷ []) (answered tt) → status a ≡ status (record_checked (of_job j))
+passed j says done e = ap status (e ∙ job_passed j says (has_ended j ∷ []) (answered tt) done)
 
 pub returns-then-is_ended : goal.returns-then-is_ended
-returns-then-is_ended c = ap status (passed (goal.at.returns-then-is_ended c).In_default (rule_broken 13 [] (answered tt) (sym c.is_ended.ensures ∙ c.if-is_ended.true)))
+returns-then-is_ended c =
+    passed c.args.job c.job_status-status.ensures c.in_default.is (rule_broken 13 [] (answered tt) (sym c.is_ended.ensures ∙ c.if-is_ended.true))
 
 pub returns : goal.returns
-returns c = ap status (passed (goal.at.returns c).In_default (rule_kept 13 [] (answered tt) (sym c.is_ended.ensures ∙ c.if-is_ended.false)))
+returns c =
+    passed c.args.job c.job_status-status.ensures c.in_default.is (rule_kept 13 [] (answered tt) (sym c.is_ended.ensures ∙ c.if-is_ended.false))

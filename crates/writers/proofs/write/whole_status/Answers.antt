@@ -2,16 +2,17 @@
 use mathlib.Core.Path.{◌≡◌, sym, ◌∙◌, ap}
 use mathlib.Core.Bool.{not}
 use mathlib.Core.List.{[], ◌∷◌}
-use borrow.Author.Rules.{rules}
 use Rattle.refusal.specs.Refusal.{Answered, answered, checked}
 use Rattle.refusal.specs.Answers.{status}
+use Rattle.types.specs.declared.table.Table.{Table}
+use Rattle.refusal.specs.declared.refusal.Status.{Status}
+use Rattle.refusal.specs.declared.refusal.Status.TheVariants as Status'
 use Rattle.refusal.specs.TableRules.{table_rules}
 use Rattle.refusal.proofs.RefusalLaws.{rule_broken, rule_kept}
 use Rattle.refusal.proofs.StatusLaws.{rules_kept}
 use Rattle.refusal.proofs.TableChecked.{kept_inputs, kept_cares, table_refused, table_passed}
 use Rattle.writers.specs.Calls.{uncared_row, whole_checked}
 use Rattle.writers.proofs.write.whole_status.Goals as goal
-use Rattle.writers.proofs.write.whole_status.Goals.{In_default}
 
 pub returns-in-Refused : goal.returns-in-Refused
 returns-in-Refused c =
@@ -25,13 +26,14 @@ is_whole-requires c =
     (kept_inputs t kept, kept_cares t kept)
 
 -- past the table's rules
-passed : (c : In_default) {a : Answered (Unit {0})} → let t = c.args.table in a ≡ checked (uncared_row t ∷ []) (answered tt) → status a ≡ status (whole_checked t)
-passed c e =
-    let t = c.args.table in
-    ap status (e ∙ table_passed t c.table_status-status.ensures (uncared_row t ∷ []) (answered tt) c.in_default.is)
+passed : (t : Table) {s : Status} → s ≡ status (checked (table_rules t []) (answered tt)) → s ≡ Status'.Done → {a : Answered (Unit {0})}
+    → a ≡ checked (uncared_row t ∷ []) (answered tt) → status a ≡ status (whole_checked t)
+passed t says done e = ap status (e ∙ table_passed t says (uncared_row t ∷ []) (answered tt) done)
 
 pub returns-then-not-is_whole : goal.returns-then-not-is_whole
-returns-then-not-is_whole c = passed (goal.at.returns-then-not-is_whole c).In_default (rule_broken 16 [] (answered tt) (ap not (sym c.is_whole.ensures) ∙ c.if-not-is_whole.true))
+returns-then-not-is_whole c =
+    passed c.args.table c.table_status-status.ensures c.in_default.is (rule_broken 16 [] (answered tt) (ap not (sym c.is_whole.ensures ∙ c.if-not-is_whole.true)))
 
 pub returns : goal.returns
-returns c = passed (goal.at.returns c).In_default (rule_kept 16 [] (answered tt) (ap not (sym c.is_whole.ensures) ∙ c.if-not-is_whole.false))
+returns c =
+    passed c.args.table c.table_status-status.ensures c.in_default.is (rule_kept 16 [] (answered tt) (ap not (sym c.is_whole.ensures ∙ c.if-not-is_whole.false)))
