@@ -1,5 +1,5 @@
 //! Names the static library to the linker. It is looked for in the folder that THRESHOLD_LIB_DIR names, or where that is not set in the
-//! repository's target/staticlib, where `rt staticlib threshold` puts it.
+//! repository's target/staticlib, where `./build library` puts it.
 
 use std::env;
 use std::path::PathBuf;
@@ -13,7 +13,7 @@ fn main() {
     let library = folder.join("libthreshold.a");
     assert!(
         folder.is_absolute() && library.exists(),
-        "no {}: run `rt staticlib threshold` at the root of the repository, or set THRESHOLD_LIB_DIR to a folder by its absolute path",
+        "no {}: run `./build library` at the root of the repository, or set THRESHOLD_LIB_DIR to a folder by its absolute path",
         library.display()
     );
     println!("cargo:rerun-if-changed={}", library.display());

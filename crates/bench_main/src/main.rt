@@ -4,13 +4,15 @@
 // as `ways` says it. What comes after the first head that breaks a rule of records, or after 65,536 bytes, does not count. bench/run
 // times it.
 #![tactic(auto)]
+
 mod tally;
 mod ways;
 
-use libc::STDIN_FILENO;
+use std::io;
+use std::io::Read;
 
-fn main() {
-    let mut input = io::large_buffer();
-    let length = io::read_full(STDIN_FILENO, &mut input);
-    tally::show(tally::of(&input[..length]));
+fn main(rt: HostRuntime) -> io::Result<()> {
+    let mut input = Vec::new(rt.alloc());
+    rt.reader().take(65536).read_to_end(&mut input)?;
+    tally::show(&rt, tally::of(&input))
 }

@@ -2,10 +2,9 @@
 use crate::ways;
 use crate::ways::Work;
 use heads::kind::{KindByte, Takes, read_kind};
-use libc::STDOUT_FILENO;
 use reading::tables::read_table;
 use refusal::refusal::Status;
-use std::num::wrapping_add_u64;
+use std::io;
 use types::kind::Kind;
 use types::stage::Stage;
 
@@ -39,16 +38,16 @@ fn none() -> Tally {
 // Returns the tally with one job more.
 fn with_work(tally: Tally, work: Work) -> Tally {
     let mut next = tally;
-    next.tables = wrapping_add_u64(next.tables, 1);
-    next.corrections = wrapping_add_u64(next.corrections, work.k as u64);
-    next.calls = wrapping_add_u64(next.calls, work.calls);
-    next.bytes = wrapping_add_u64(next.bytes, work.bytes);
+    next.tables = next.tables.wrapping_add(1);
+    next.corrections = next.corrections.wrapping_add(work.k as u64);
+    next.calls = next.calls.wrapping_add(work.calls);
+    next.bytes = next.bytes.wrapping_add(work.bytes);
     let stage = work.stage;
     match stage {
-        Stage::Open => next.open = wrapping_add_u64(next.open, 1),
-        Stage::Found => next.found = wrapping_add_u64(next.found, 1),
-        Stage::Looped => next.looped = wrapping_add_u64(next.looped, 1),
-        Stage::Binate => next.binate = wrapping_add_u64(next.binate, 1),
+        Stage::Open => next.open = next.open.wrapping_add(1),
+        Stage::Found => next.found = next.found.wrapping_add(1),
+        Stage::Looped => next.looped = next.looped.wrapping_add(1),
+        Stage::Binate => next.binate = next.binate.wrapping_add(1),
     }
     next
 }
@@ -92,19 +91,19 @@ pub fn of(heads: &[u8]) -> Tally {
 }
 
 // Prints the eight numbers on a line.
-pub fn show(tally: Tally) {
-    number(tally.tables, b" ");
-    number(tally.found, b" ");
-    number(tally.looped, b" ");
-    number(tally.binate, b" ");
-    number(tally.open, b" ");
-    number(tally.corrections, b" ");
-    number(tally.calls, b" ");
-    number(tally.bytes, b"\n");
+pub fn show(rt: &impl Print, tally: Tally) -> io::Result<()> {
+    number(rt, tally.tables, b" ")?;
+    number(rt, tally.found, b" ")?;
+    number(rt, tally.looped, b" ")?;
+    number(rt, tally.binate, b" ")?;
+    number(rt, tally.open, b" ")?;
+    number(rt, tally.corrections, b" ")?;
+    number(rt, tally.calls, b" ")?;
+    number(rt, tally.bytes, b"\n")
 }
 
 // Prints a number and what ends it.
-fn number(n: u64, after: &[u8]) {
-    io::print_decimal(STDOUT_FILENO, n);
-    io::write_all(STDOUT_FILENO, after);
+fn number(rt: &impl Print, n: u64, after: &[u8]) -> io::Result<()> {
+    rt.print(n)?;
+    rt.write_all(after)
 }

@@ -4,7 +4,6 @@ ghost use Rattle.std.specs.Prelude.{◌<◌, ◌≤◌};
 
 use job::job::Job;
 use receiving::record::read;
-use std::num::wrapping_add_u64;
 use testing::parts::first_bytes;
 use types::stage::Stage;
 use types::table::Table;
@@ -100,11 +99,11 @@ fn in_small_calls(fresh: Job, is_saved: bool) -> Work {
         let carried = job.carry_on(budget);
         job = carried.job;
         left = left - budget;
-        calls = wrapping_add_u64(calls, 1);
+        calls = calls.wrapping_add(1);
         if is_saved && is_open(job) {
             let saved = saved_and_read(job, &mut out);
             job = saved.job;
-            bytes = wrapping_add_u64(bytes, saved.bytes);
+            bytes = bytes.wrapping_add(saved.bytes);
         }
     }
     let state = job.state;

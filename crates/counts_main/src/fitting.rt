@@ -14,12 +14,10 @@ pub struct Fitted {
 
 // Whether one of the tables that gates have has the values of the rows that are cared for.
 fn fits(have: &[bool; 256], rows: Rows) -> bool {
-    let mut table: usize = 0;
-    while table < 256 {
+    for table in 0..256 {
         if have[table] && (table as u8 ^ rows.values) & rows.cares == 0 {
             return true;
         }
-        table = table + 1;
     }
     false
 }
@@ -30,15 +28,13 @@ pub fn compare(n: u8, tables: u32, have: &[bool; 256]) -> Fitted
 {
     let mut fit: u64 = 0;
     let mut alike: u64 = 0;
-    let mut number: u32 = 0;
-    while number < tables {
+    for number in 0..tables {
         let rows = partial::rows_of(number);
         let ended = outcome::run(partial::table(n, rows));
         let is_fit = fits(have, rows);
         let is_found = ended.stage == outcome::FOUND;
         fit = fit + one_if(is_fit);
         alike = alike + one_if(is_found == is_fit);
-        number = number + 1;
     }
     Fitted { fit, alike }
 }

@@ -17,11 +17,9 @@ fn gate_of(n: u8, number: u32) -> Gate {
     let choices = WEIGHTS;
     let mut weights = [0i32; 8];
     let mut rest = number;
-    let mut place: usize = 0;
-    while place < 3 && place < n as usize {
+    for place in 0..(n as usize).min(3) {
         weights[place] = choices[(rest % 5) as usize];
         rest = rest / 5;
-        place = place + 1;
     }
     let thresholds = THRESHOLDS;
     Gate {
@@ -43,12 +41,10 @@ fn is_true(gate: Gate, row: usize) -> bool {
 // Returns the rows on which a gate of up to three inputs is true, as bits.
 fn true_rows(gate: Gate) -> u8 {
     let mut rows: u8 = 0;
-    let mut row: u8 = 0;
-    while row < 8 {
+    for row in 0..8u8 {
         if is_true(gate, row as usize) {
             rows = rows | 1u8 << row;
         }
-        row = row + 1;
     }
     rows
 }
@@ -56,11 +52,9 @@ fn true_rows(gate: Gate) -> u8 {
 // Returns for each table of n inputs, its rows as bits, whether a gate has it.
 pub fn tables(n: u8) -> [bool; 256] {
     let mut have = [false; 256];
-    let mut number: u32 = 0;
-    while number < GATES {
+    for number in 0..GATES {
         let rows = true_rows(gate_of(n, number));
         have[rows as usize] = true;
-        number = number + 1;
     }
     have
 }
@@ -68,10 +62,8 @@ pub fn tables(n: u8) -> [bool; 256] {
 // Returns how many tables gates have.
 pub fn count(have: &[bool; 256]) -> u64 {
     let mut count: u64 = 0;
-    let mut rows: usize = 0;
-    while rows < 256 {
+    for rows in 0..256 {
         count = count + one_if(have[rows]);
-        rows = rows + 1;
     }
     count
 }

@@ -14,8 +14,7 @@ pub fn rows_of(number: u32) -> Rows {
     let mut cares: u8 = 0;
     let mut values: u8 = 0;
     let mut rest = number;
-    let mut row: u8 = 0;
-    while row < 8 {
+    for row in 0..8u8 {
         let bit = 1u8 << row;
         if rest % 3 != 0 {
             cares = cares | bit;
@@ -24,7 +23,6 @@ pub fn rows_of(number: u32) -> Rows {
             values = values | bit;
         }
         rest = rest / 3;
-        row = row + 1;
     }
     Rows { cares, values }
 }

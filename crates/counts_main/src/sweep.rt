@@ -4,6 +4,7 @@ ghost use Rattle.std.specs.Prelude.{◌≤◌};
 use crate::{fitting, gate_counts, outcome, partial};
 use cell::whole::whole_table;
 use papers::show;
+use std::io;
 use types::table::Table;
 
 // Returns the table of at most four inputs whose rows are the bits of a number.
@@ -37,14 +38,12 @@ fn tally_of(n: u8, tables: u32, is_partial: bool) -> Tally
     let mut jobs = [0u64; 4];
     let mut corrections = [0u64; 4];
     let mut accepted: u64 = 0;
-    let mut number: u32 = 0;
-    while number < tables {
+    for number in 0..tables {
         let ended = outcome::run(table_of(n, number, is_partial));
         let stage = ended.stage;
         jobs[stage] = jobs[stage] + 1;
         corrections[stage] = corrections[stage] + ended.corrections;
         accepted = accepted + ended.accepted;
-        number = number + 1;
     }
     Tally {
         jobs,
@@ -54,55 +53,55 @@ fn tally_of(n: u8, tables: u32, is_partial: bool) -> Tally
 }
 
 // Prints the line of n, of which there are so many tables.
-pub fn tables(n: u8, tables: u32)
+pub fn tables(rt: &impl Print, n: u8, tables: u32) -> io::Result<()>
     requires { tables ≤ 65536 }
 {
-    show_tally(n, b" tables", tables, tally_of(n, tables, false));
-    show::word(b"\n");
+    show_tally(rt, n, b" tables", tables, tally_of(n, tables, false))?;
+    show::word(rt, b"\n")
 }
 
 // Prints the line of the partial tables of n inputs, of which there are so many. After what their jobs came to stand how many tables gates
 // have, how many partial tables one of these fits, and how many are alike in both: found, and fitted, or neither.
-pub fn partial_tables(n: u8, tables: u32)
+pub fn partial_tables(rt: &impl Print, n: u8, tables: u32) -> io::Result<()>
     requires { tables ≤ 65536 }
 {
-    show_tally(n, b" partial", tables, tally_of(n, tables, true));
+    show_tally(rt, n, b" partial", tables, tally_of(n, tables, true))?;
     let have = gate_counts::tables(n);
     let fitted = fitting::compare(n, tables, &have);
-    show::word(b" by");
-    show::number(gate_counts::count(&have));
-    show::word(b" fit");
-    show::number(fitted.fit);
-    show::word(b" alike");
-    show::number(fitted.alike);
-    show::word(b"\n");
+    show::word(rt, b" by")?;
+    show::number(rt, gate_counts::count(&have))?;
+    show::word(rt, b" fit")?;
+    show::number(rt, fitted.fit)?;
+    show::word(rt, b" alike")?;
+    show::number(rt, fitted.alike)?;
+    show::word(rt, b"\n")
 }
 
 // Prints n, how many tables there are, and how their jobs ended.
-fn show_tally(n: u8, name: &[u8], tables: u32, tally: Tally) {
-    show::word(b"n");
-    show::number(n as u64);
-    show::word(name);
-    show::number(tables as u64);
-    show_stages(tally);
-    show::word(b" accepted");
-    show::number(tally.accepted);
+fn show_tally(rt: &impl Print, n: u8, name: &[u8], tables: u32, tally: Tally) -> io::Result<()> {
+    show::word(rt, b"n")?;
+    show::number(rt, n as u64)?;
+    show::word(rt, name)?;
+    show::number(rt, tables as u64)?;
+    show_stages(rt, tally)?;
+    show::word(rt, b" accepted")?;
+    show::number(rt, tally.accepted)
 }
 
 // Prints how many jobs ended in each stage, and the corrections of those that found a gate and of those that looped.
-fn show_stages(tally: Tally) {
+fn show_stages(rt: &impl Print, tally: Tally) -> io::Result<()> {
     let jobs = tally.jobs;
     let corrections = tally.corrections;
-    show::word(b" gates");
-    show::number(jobs[outcome::FOUND]);
-    show::word(b" corrections");
-    show::number(corrections[outcome::FOUND]);
-    show::word(b" looped");
-    show::number(jobs[outcome::LOOPED]);
-    show::word(b" corrections");
-    show::number(corrections[outcome::LOOPED]);
-    show::word(b" binate");
-    show::number(jobs[outcome::BINATE]);
-    show::word(b" open");
-    show::number(jobs[outcome::OPEN]);
+    show::word(rt, b" gates")?;
+    show::number(rt, jobs[outcome::FOUND])?;
+    show::word(rt, b" corrections")?;
+    show::number(rt, corrections[outcome::FOUND])?;
+    show::word(rt, b" looped")?;
+    show::number(rt, jobs[outcome::LOOPED])?;
+    show::word(rt, b" corrections")?;
+    show::number(rt, corrections[outcome::LOOPED])?;
+    show::word(rt, b" binate")?;
+    show::number(rt, jobs[outcome::BINATE])?;
+    show::word(rt, b" open")?;
+    show::number(rt, jobs[outcome::OPEN])
 }

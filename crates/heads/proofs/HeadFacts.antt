@@ -44,7 +44,7 @@ head_refused b e = ap (λ (k : Kind). and_then (family_of k) (λ f. answered (he
 
 -- it is one of the kinds of a record
 abbrev pub Whole : Kind → Type 0
-Whole k = OneOf (0 ∷ 1 ∷ 2 ∷ 3 ∷ []) (tag_of the_type k)
+Whole k = (n : ℕ) → k ≡ Kind'.Refused n → ⊥
 
 -- a kind that is no refusal has a family
 pub kind_family : (k : Kind) → Whole k → (f : Family) × (family_of k ≡ answered f)
@@ -52,10 +52,7 @@ kind_family Kind'.Table w = (tables, refl)
 kind_family Kind'.Gate w = (gates, refl)
 kind_family Kind'.Witness w = (witnesses, refl)
 kind_family Kind'.Job w = (jobs, refl)
-kind_family (Kind'.Refused n) w = absurd (none w)
-  where
-    none : OneOf (0 ∷ 1 ∷ 2 ∷ 3 ∷ []) 4 → ⊥
-    none = ⊎_elim (λ e. omega arith) (⊎_elim (λ e. omega arith) (⊎_elim (λ e. omega arith) (λ e. omega arith)))
+kind_family (Kind'.Refused n) w = absurd (w n refl)
 
 -- one that is no refusal says a head
 pub head_whole : (b : KindByte) → Whole b.kind → (h : Head) × (head_of b ≡ answered h) × (h.cares ≡ b.cares)

@@ -1,3 +1,4 @@
 // The heights of rows.
 #![tactic(auto)]
+
 pub mod page;

@@ -1,37 +1,43 @@
 // Prints the cell manual's page of heights, the table of docs/HEIGHTS.md: sixteen lines of sixteen rows.
 #![tactic(auto)]
+
 use heights::page::page;
 use papers::show;
+use std::io;
 
 // Prints an entry of a line.
-fn entry(number: u64) {
-    show::number(number);
-    show::word(b" |");
+fn entry(rt: &impl Print, number: u64) -> io::Result<()> {
+    show::number(rt, number)?;
+    show::word(rt, b" |")
 }
 
 // Begins a line at each sixteenth row, with the row's number.
-fn begin_line(row: usize) {
+fn begin_line(rt: &impl Print, row: usize) -> io::Result<()> {
     if row % 16 == 0 {
-        show::word(b"\n|");
-        entry(row as u64);
+        show::word(rt, b"\n|")?;
+        entry(rt, row as u64)?;
     }
+    Ok(())
 }
 
 // Prints the sixteen lines. A line feed stands before each.
-fn print_lines(heights: [u8; 256]) {
-    let mut row: usize = 0;
-    while row < 256 {
-        begin_line(row);
-        entry(heights[row] as u64);
-        row = row + 1;
+fn print_lines(rt: &impl Print, heights: [u8; 256]) -> io::Result<()> {
+    for (row, height) in heights.iter().enumerate() {
+        begin_line(rt, row)?;
+        entry(rt, *height as u64)?;
     }
+    Ok(())
 }
 
-fn main() {
+fn main(rt: HostRuntime) -> io::Result<()> {
     show::word(
+        &rt,
         b"| row | +0 | +1 | +2 | +3 | +4 | +5 | +6 | +7 | +8 | +9 | +10 | +11 | +12 | +13 | +14 | +15 |\n",
-    );
-    show::word(b"|---|---|---|---|---|---|---|---|---|---|---|---|---|---|---|---|---|");
-    print_lines(page());
-    show::word(b"\n");
+    )?;
+    show::word(
+        &rt,
+        b"|---|---|---|---|---|---|---|---|---|---|---|---|---|---|---|---|---|",
+    )?;
+    print_lines(&rt, page())?;
+    show::word(&rt, b"\n")
 }

@@ -2,44 +2,47 @@
 // an order at once, and with extreme contents. The cases are the lines of standard input; a line that starts with # says what those after
 // it are for. Prints a line for each case, with what every call says.
 #![tactic(auto)]
+
 mod calls;
 mod print;
 
-use libc::STDIN_FILENO;
 use papers::line::{line_end, table_of};
 use papers::show;
 use papers::text::{first, word};
+use std::io;
+use std::io::Read;
 use testing::make;
 
 // Runs each line.
-fn run(lines: &[u8]) {
+fn run(rt: &impl Print, lines: &[u8]) -> io::Result<()> {
     let mut at: usize = 0;
     while at < lines.len() {
         let end = line_end(lines, at);
-        run_line(&lines[at..end]);
+        run_line(rt, &lines[at..end])?;
         at = end + 1;
     }
+    Ok(())
 }
 
 // Prints the line of a case, then the fresh job of its table, its job after one call, or what the calls say of the line's job.
-fn run_line(line: &[u8]) {
+fn run_line(rt: &impl Print, line: &[u8]) -> io::Result<()> {
     if first(line) == b'#' {
-        return;
+        return Ok(());
     }
-    show::word(line);
+    show::word(rt, line)?;
     let letter = word(line, 3);
     if letter.len() == 0 {
-        calls::on_table(table_of(line));
+        calls::on_table(rt, table_of(line))?;
     } else if letter[0] == b'D' {
-        calls::on_decided(table_of(line));
+        calls::on_decided(rt, table_of(line))?;
     } else {
-        calls::on_job(make::job(line), make::row(line), make::budget(line));
+        calls::on_job(rt, make::job(line), make::row(line), make::budget(line))?;
     }
-    show::word(b"\n");
+    show::word(rt, b"\n")
 }
 
-fn main() {
-    let mut lines = [0u8; 32768];
-    let length = io::read_full(STDIN_FILENO, &mut lines);
-    run(&lines[..length]);
+fn main(rt: HostRuntime) -> io::Result<()> {
+    let mut lines = Vec::new(rt.alloc());
+    rt.reader().take(32768).read_to_end(&mut lines)?;
+    run(&rt, &lines)
 }

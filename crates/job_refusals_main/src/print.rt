@@ -2,94 +2,92 @@
 use job::job::Job;
 use papers::show;
 use refusal::refusal::Status;
+use std::io;
 use testing::stage;
 use types::vector::Vector;
 use view::shown::Verdict;
 
 // Writes done or a refusal's number.
-pub fn status(status: Status) {
+pub fn status(rt: &impl Print, status: Status) -> io::Result<()> {
     match status {
-        Status::Done => show::word(b" done"),
-        Status::Refused(number) => show::number(number as u64),
+        Status::Done => show::word(rt, b" done"),
+        Status::Refused(number) => show::number(rt, number as u64),
     }
 }
 
 // Writes the verdict or a refusal's number.
-pub fn verdict(verdict: Verdict) {
+pub fn verdict(rt: &impl Print, verdict: Verdict) -> io::Result<()> {
     match verdict {
-        Verdict::Gate => show::word(b" gate"),
-        Verdict::Witness => show::word(b" witness"),
-        Verdict::Open => show::word(b" open"),
-        Verdict::Refused(number) => show::number(number as u64),
+        Verdict::Gate => show::word(rt, b" gate"),
+        Verdict::Witness => show::word(rt, b" witness"),
+        Verdict::Open => show::word(rt, b" open"),
+        Verdict::Refused(number) => show::number(rt, number as u64),
     }
 }
 
 // Writes none for what is all 0, the part's name for what is the job's, else other.
-pub fn part(name: &[u8], is_zero: bool, is_own: bool) {
+pub fn part(rt: &impl Print, name: &[u8], is_zero: bool, is_own: bool) -> io::Result<()> {
     if is_zero {
-        show::word(b" none");
+        show::word(rt, b" none")
     } else if is_own {
-        show::word(name);
+        show::word(rt, name)
     } else {
-        show::word(b" other");
+        show::word(rt, b" other")
     }
 }
 
 // Writes whether what was handed in is kept.
-pub fn kept(name: &[u8], is_kept: bool) {
-    show::word(name);
+pub fn kept(rt: &impl Print, name: &[u8], is_kept: bool) -> io::Result<()> {
+    show::word(rt, name)?;
     if is_kept {
-        show::word(b" kept");
+        show::word(rt, b" kept")
     } else {
-        show::word(b" changed");
+        show::word(rt, b" changed")
     }
 }
 
 // Writes the numbers and the stage of a job.
-pub fn job(job: Job) {
+pub fn job(rt: &impl Print, job: Job) -> io::Result<()> {
     let state = job.state;
-    numbers(state.k, state.mark);
-    vectors(state.v, state.s, job.table.n as usize);
-    show::word(b" counts");
+    numbers(rt, state.k, state.mark)?;
+    vectors(rt, state.v, state.s, job.table.n as usize)?;
+    show::word(rt, b" counts")?;
     let counts = state.counts;
-    pairs(counts);
+    pairs(rt, counts)?;
     let stage = state.stage;
-    stage::show(stage);
+    stage::show(rt, stage)
 }
 
 // Writes K and M.
-fn numbers(k: u32, mark: u32) {
-    show::word(b" K");
-    show::number(k as u64);
-    show::word(b" M");
-    show::number(mark as u64);
+fn numbers(rt: &impl Print, k: u32, mark: u32) -> io::Result<()> {
+    show::word(rt, b" K")?;
+    show::number(rt, k as u64)?;
+    show::word(rt, b" M")?;
+    show::number(rt, mark as u64)
 }
 
 // Writes v and s.
-fn vectors(v: Vector, s: Vector, n: usize) {
-    show::word(b" v");
-    vector(v, n);
-    show::word(b" s");
-    vector(s, n);
+fn vectors(rt: &impl Print, v: Vector, s: Vector, n: usize) -> io::Result<()> {
+    show::word(rt, b" v")?;
+    vector(rt, v, n)?;
+    show::word(rt, b" s")?;
+    vector(rt, s, n)
 }
 
 // Writes the first n weights and b.
-fn vector(v: Vector, n: usize) {
-    let mut place: usize = 0;
-    while place < 8 && place < n {
-        show::signed(v.a[place]);
-        place = place + 1;
+fn vector(rt: &impl Print, v: Vector, n: usize) -> io::Result<()> {
+    for weight in v.a.iter().take(n) {
+        show::signed(rt, *weight)?;
     }
-    show::signed(v.b);
+    show::signed(rt, v.b)
 }
 
 // Writes the counts above 0, each with its row.
-fn pairs(counts: [u32; 256]) {
-    let mut row: usize = 0;
-    while row < 256 {
-        if counts[row] != 0 {
-            show::pair(row as u64, counts[row] as u64);
+fn pairs(rt: &impl Print, counts: [u32; 256]) -> io::Result<()> {
+    for (row, count) in counts.iter().enumerate() {
+        if *count != 0 {
+            show::pair(rt, row as u64, *count as u64)?;
         }
-        row = row + 1;
     }
+    Ok(())
 }

@@ -2,6 +2,7 @@
 // function, a second one where the job was still open, and last the numbers of verdicts and the sum of K over the gates; then the same of
 // the partial tables.
 #![tactic(auto)]
+
 mod call;
 mod paper_function;
 mod split;
@@ -12,6 +13,7 @@ use paper_function::Outcome;
 use papers::data::{FUNCTIONS, PARTIAL};
 use papers::line::line_end;
 use papers::show;
+use std::io;
 
 // Returns 1 where the outcome has this letter, else 0.
 fn has_letter(outcome: Outcome, letter: u8) -> u64
@@ -32,7 +34,7 @@ fn gate_k(outcome: Outcome) -> u64
 }
 
 // Runs each line, and prints the last one.
-fn run(lines: &[u8])
+fn run(rt: &impl Print, lines: &[u8]) -> io::Result<()>
     requires { length lines.now ≤ 65536 }
 {
     let mut gates: u64 = 0;
@@ -42,32 +44,38 @@ fn run(lines: &[u8])
     let mut at: usize = 0;
     while at < lines.len() {
         let end = line_end(lines, at);
-        let outcome = paper_function::run(&lines[at..end]);
+        let outcome = paper_function::run(rt, &lines[at..end])?;
         gates = gates + has_letter(outcome, b'G');
         witnesses = witnesses + has_letter(outcome, b'N');
         given_up = given_up + has_letter(outcome, b'S');
         gates_k = gates_k + gate_k(outcome);
         at = end + 1;
     }
-    summary(gates, witnesses, given_up, gates_k);
+    summary(rt, gates, witnesses, given_up, gates_k)
 }
 
 // Prints the numbers of gates, of witnesses and of jobs given up so far, and the sum of K over the gates.
-fn summary(gates: u64, witnesses: u64, given_up: u64, gates_k: u64) {
-    show::word(b"G");
-    show::number(gates);
-    show::word(b" N");
-    show::number(witnesses);
-    show::word(b" S");
-    show::number(given_up);
-    show::word(b" K");
-    show::number(gates_k);
-    show::word(b"\n");
+fn summary(
+    rt: &impl Print,
+    gates: u64,
+    witnesses: u64,
+    given_up: u64,
+    gates_k: u64,
+) -> io::Result<()> {
+    show::word(rt, b"G")?;
+    show::number(rt, gates)?;
+    show::word(rt, b" N")?;
+    show::number(rt, witnesses)?;
+    show::word(rt, b" S")?;
+    show::number(rt, given_up)?;
+    show::word(rt, b" K")?;
+    show::number(rt, gates_k)?;
+    show::word(rt, b"\n")
 }
 
-fn main() {
+fn main(rt: HostRuntime) -> io::Result<()> {
     let lines = FUNCTIONS;
-    run(&lines);
+    run(&rt, &lines)?;
     let partial = PARTIAL;
-    run(&partial);
+    run(&rt, &partial)
 }

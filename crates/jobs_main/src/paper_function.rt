@@ -5,6 +5,7 @@ use job::job::Job;
 use papers::line::table_of;
 use papers::show;
 use papers::text::word;
+use std::io;
 
 // The verdict's letter after one call (G a gate, N a witness, S given up so far), and K.
 #[derive(Clone, Copy)]
@@ -14,30 +15,30 @@ pub struct Outcome {
 }
 
 // Prints the function's line, or its two.
-pub fn run(line: &[u8]) -> Outcome {
+pub fn run(rt: &impl Print, line: &[u8]) -> io::Result<Outcome> {
     let table = table_of(line);
-    show::word(word(line, 0));
-    show::number(table.n as u64);
+    show::word(rt, word(line, 0))?;
+    show::number(rt, table.n as u64)?;
     let started = Job::fresh(table);
     let fresh = started.job;
     let carried = fresh.carry_on(Job::CALL_BUDGET);
     let job = carried.job;
-    let letter = show_call(carried);
-    show_split(job);
-    show::word(b"\n");
+    let letter = show_call(rt, carried)?;
+    show_split(rt, job)?;
+    show::word(rt, b"\n")?;
     if letter == b'S' {
-        run_again(word(line, 0), job);
+        run_again(rt, word(line, 0), job)?;
     }
-    Outcome {
+    Ok(Outcome {
         letter,
         k: job.state.k,
-    }
+    })
 }
 
 // Prints the line of a second call.
-fn run_again(name: &[u8], job: Job) {
-    show::word(name);
-    show::word(b" again");
-    show_call(job.carry_on(Job::CALL_BUDGET));
-    show::word(b"\n");
+fn run_again(rt: &impl Print, name: &[u8], job: Job) -> io::Result<()> {
+    show::word(rt, name)?;
+    show::word(rt, b" again")?;
+    show_call(rt, job.carry_on(Job::CALL_BUDGET))?;
+    show::word(rt, b"\n")
 }

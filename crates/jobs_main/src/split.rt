@@ -1,6 +1,7 @@
 // A job carried on in many small calls.
 use job::job::Job;
 use papers::show;
+use std::io;
 use testing::compare::same_job;
 use testing::stage::letter;
 use types::table::Table;
@@ -38,14 +39,14 @@ fn small_calls(table: Table) -> Calls {
 }
 
 // Prints whether small calls bring the table's job to the same end with as many corrections, or that they leave it open.
-pub fn show_split(job: Job) {
-    show::word(b" split");
+pub fn show_split(rt: &impl Print, job: Job) -> io::Result<()> {
+    show::word(rt, b" split")?;
     let table = job.table;
     let calls = small_calls(table);
     let end = calls.job;
     if is_open(end) {
-        show::word(b" open");
+        show::word(rt, b" open")
     } else {
-        show::same(calls.made == job.state.k as u64 && same_job(job, end));
+        show::same(rt, calls.made == job.state.k as u64 && same_job(job, end))
     }
 }

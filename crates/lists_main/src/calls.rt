@@ -65,9 +65,9 @@ fn is_right(before: Job, carried: Carried, number: u8) -> bool {
 // Adds the corrections of a carry-on to the sums, and its budget where it was accepted.
 fn with_sums(calls: Calls, budget: u32, made: u32, number: u8) -> Calls {
     let mut next = calls;
-    next.made = std::num::wrapping_add_u64(next.made, made as u64);
+    next.made = next.made.wrapping_add(made as u64);
     if number == 0 {
-        next.budgets = std::num::wrapping_add_u64(next.budgets, budget as u64);
+        next.budgets = next.budgets.wrapping_add(budget as u64);
     }
     next
 }

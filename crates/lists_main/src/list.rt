@@ -6,6 +6,7 @@ use job::job::Job;
 use papers::line::table_of;
 use papers::show;
 use papers::text::{first, word};
+use std::io;
 use testing::compare::same_job;
 use testing::{make, stage, tally};
 
@@ -62,12 +63,10 @@ fn call(calls: Calls, pick: u64, amount: u64, line: &[u8]) -> Calls {
 fn calls_on(job: Job, line: &[u8]) -> Calls {
     let mut calls = calls::none(job);
     let mut state = line.len() as u64;
-    let mut made: u32 = 0;
-    while made < CALLS {
+    for _ in 0..CALLS {
         let second = after(state);
         state = after(second);
         calls = call(calls, second / 65_536 % 32, state / 64, line);
-        made = made + 1;
     }
     calls
 }
@@ -87,27 +86,27 @@ fn unbroken(job: Job, budgets: u64) -> Job {
 }
 
 // Prints the sums of accepted budgets and of corrections, and K.
-fn show_sums(budgets: u64, made: u64, k: u32) {
-    show::word(b" budgets");
-    show::number(budgets);
-    show::word(b" made");
-    show::number(made);
-    show::word(b" K");
-    show::number(k as u64);
+fn show_sums(rt: &impl Print, budgets: u64, made: u64, k: u32) -> io::Result<()> {
+    show::word(rt, b" budgets")?;
+    show::number(rt, budgets)?;
+    show::word(rt, b" made")?;
+    show::number(rt, made)?;
+    show::word(rt, b" K")?;
+    show::number(rt, k as u64)
 }
 
 // Prints the list's name, the numbers that its calls gave, the sums, K, the stage, and whether the job is that of an unbroken run.
-pub fn run(line: &[u8]) {
+pub fn run(rt: &impl Print, line: &[u8]) -> io::Result<()> {
     let first_job = start(line);
     let calls = calls_on(first_job, line);
     let job = calls.job;
     let state = job.state;
     let stage = state.stage;
-    show::word(word(line, 0));
-    tally::print(b" carried", calls.carried);
-    tally::print(b" saved", calls.saved);
-    show_sums(calls.budgets, calls.made, state.k);
-    stage::show(stage);
-    show::same(same_job(job, unbroken(first_job, calls.budgets)));
-    show::word(b"\n");
+    show::word(rt, word(line, 0))?;
+    tally::print(rt, b" carried", calls.carried)?;
+    tally::print(rt, b" saved", calls.saved)?;
+    show_sums(rt, calls.budgets, calls.made, state.k)?;
+    stage::show(rt, stage)?;
+    show::same(rt, same_job(job, unbroken(first_job, calls.budgets)))?;
+    show::word(rt, b"\n")
 }

@@ -88,8 +88,12 @@ module _ {s : List ℕ} {at here scale value : ℕ} (a : Ahead s at here scale v
     ahead_scale = next_fits scale rest scaled_is
 
     -- and the value with any next group is below it
-    pub ahead_value : (group : ℕ) → group < 128 → value + scale * group < scale * 128
+    ahead_value : (group : ℕ) → group < 128 → value + scale * group < scale * 128
     ahead_value group g = omega (arith, a.small, mul-le-mul_left {m = group} {n = 127} scale (omega arith))
+
+    -- and is below 2097152
+    pub ahead_small : (group : ℕ) → group < 128 → value + scale * group < 2097152
+    ahead_small group g = omega (arith, ahead_value group g, ahead_scale)
 
     goes_on_is : {r : Reading ℕ} → groups_at (suc rest) (ltb 1 scale) s here ≡ r → number_at s at ≡ placed value scale r
     goes_on_is e = a.goes_on ∙ ap (λ (l : ℕ). placed value scale (groups_at l (ltb 1 scale) s here)) left_is ∙ ap (placed value scale) e

@@ -3,8 +3,8 @@
 // stroke and its care bytes after them.
 ghost use Rattle.std.specs.Prelude.{◌≤◌, length};
 
+use crate::scan::find;
 use crate::text::{digit, number, word};
-use bytes::scan::find;
 use cell::whole::whole_table;
 use types::table::Table;
 
@@ -19,10 +19,8 @@ pub fn line_end(lines: &[u8], at: usize) -> usize
 // Returns the bytes that digits in base sixteen spell, up to 32, and zeros behind them.
 fn bytes_of(digits: &[u8]) -> [u8; 32] {
     let mut bytes = [0u8; 32];
-    let mut at: usize = 0;
-    while at < 64 && at < digits.len() {
+    for at in 0..digits.len().min(64) {
         bytes[at / 2] = bytes[at / 2] << 4 | digit(digits[at]);
-        at = at + 1;
     }
     bytes
 }

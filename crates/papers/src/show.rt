@@ -1,58 +1,53 @@
-// Words and numbers on standard output, each after the first of a line with a space in front.
-use libc::STDOUT_FILENO;
+// Words and numbers on standard output, each after the first of a line with a space in front. A write that fails gives its error.
 use refusal::refusal::Answer;
+use std::io;
 use types::inputs::InputKind;
 
 // Writes a word as it stands.
-pub fn word(text: &[u8]) {
-    io::write_all(STDOUT_FILENO, text);
+pub fn word(rt: &impl Print, text: &[u8]) -> io::Result<()> {
+    rt.write_all(text)
 }
 
 // Writes a space and a number.
-pub fn number(n: u64) {
-    word(b" ");
-    io::print_decimal(STDOUT_FILENO, n);
+pub fn number(rt: &impl Print, n: u64) -> io::Result<()> {
+    word(rt, b" ")?;
+    rt.print(n)
 }
 
 // Writes a space and two numbers with a colon between them.
-pub fn pair(x: u64, y: u64) {
-    number(x);
-    word(b":");
-    io::print_decimal(STDOUT_FILENO, y);
+pub fn pair(rt: &impl Print, x: u64, y: u64) -> io::Result<()> {
+    number(rt, x)?;
+    word(rt, b":")?;
+    rt.print(y)
 }
 
 // Writes a space and a signed number.
-pub fn signed(x: i32) {
-    let wide = x as i64;
-    if wide < 0 {
-        word(b" -");
-        io::print_decimal(STDOUT_FILENO, (0 - wide) as u64);
-    } else {
-        number(wide as u64);
-    }
+pub fn signed(rt: &impl Print, x: i32) -> io::Result<()> {
+    word(rt, b" ")?;
+    rt.print(x)
 }
 
 // Writes a space and yes, no, or a refusal's number.
-pub fn answer(answer: Answer) {
+pub fn answer(rt: &impl Print, answer: Answer) -> io::Result<()> {
     match answer {
-        Answer::Yes => word(b" yes"),
-        Answer::No => word(b" no"),
-        Answer::Refused(by) => number(by as u64),
+        Answer::Yes => word(rt, b" yes"),
+        Answer::No => word(rt, b" no"),
+        Answer::Refused(by) => number(rt, by as u64),
     }
 }
 
 // Writes a space and whether two things are the same.
-pub fn same(is_same: bool) {
+pub fn same(rt: &impl Print, is_same: bool) -> io::Result<()> {
     if is_same {
-        word(b" same");
+        word(rt, b" same")
     } else {
-        word(b" other");
+        word(rt, b" other")
     }
 }
 
 // Writes a space and the letter of a kind.
-pub fn kind(kind: InputKind) {
-    word(&[b' ', letter(kind)]);
+pub fn kind(rt: &impl Print, kind: InputKind) -> io::Result<()> {
+    word(rt, &[b' ', letter(kind)])
 }
 
 // Returns the letter of a kind.

@@ -1,24 +1,22 @@
 // Words and numbers of a line of text. One space parts two words.
 ghost use Rattle.std.specs.Prelude.{◌≤◌, ◌<◌, length};
 
-use bytes::scan::find;
+use crate::scan::find;
 
 // Returns where word k starts, counted from 0; the line's length past the last word.
 fn word_start(line: &[u8], k: usize) -> usize
     ensures { result ≤ length line.now }
 {
     let mut left = k;
-    let mut at: usize = 0;
-    while at < line.len() {
+    for (at, letter) in line.iter().enumerate() {
         if left == 0 {
             return at;
         }
-        if line[at] == b' ' {
+        if *letter == b' ' {
             left = left - 1;
         }
-        at = at + 1;
     }
-    at
+    line.len()
 }
 
 // Returns word k, counted from 0; empty past the last.
@@ -61,10 +59,11 @@ fn with_digit(value: u16, letter: u8) -> u16
 // Returns the number that a word spells in base ten, up to the digit that makes it 6,000 or more.
 pub fn number(word: &[u8]) -> u16 {
     let mut value: u16 = 0;
-    let mut at: usize = 0;
-    while at < word.len() && value < 6000 {
-        value = with_digit(value, word[at]);
-        at = at + 1;
+    for letter in word {
+        if 6000 <= value {
+            return value;
+        }
+        value = with_digit(value, *letter);
     }
     value
 }

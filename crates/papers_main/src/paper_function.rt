@@ -7,97 +7,93 @@ use papers::line::table_of;
 use papers::show;
 use papers::text::{first, number, signed, word, words_from};
 use refusal::refusal::Answer;
+use std::io;
 use types::gate::Gate;
 use types::inputs::Place;
 use types::table::Table;
 use types::witness::Witness;
 
 // Prints the function's line, and returns whether the places past n are idle and 0.
-pub fn run(line: &[u8]) -> bool {
+pub fn run(rt: &impl Print, line: &[u8]) -> io::Result<bool> {
     let table = table_of(line);
-    show::word(word(line, 0));
-    show::number(table.n as u64);
+    show::word(rt, word(line, 0))?;
+    show::number(rt, table.n as u64)?;
     let numbers = words_from(line, 4);
     if first(word(line, 3)) == b'G' {
-        run_gate(table, gate_of(table.n, numbers));
+        run_gate(rt, table, gate_of(table.n, numbers))?;
     } else {
-        run_witness(table, numbers);
+        run_witness(rt, table, numbers)?;
     }
-    run_inputs(table)
+    run_inputs(rt, table)
 }
 
 // Prints what the checker says of the gate, the rows on which table and gate agree, and what it says of the gate with another T.
-fn run_gate(table: Table, gate: Gate) {
-    show::word(b" gate");
-    show::answer(check_gate(table, gate));
-    show::word(b" rows");
-    show::number(agreeing_rows(table, gate));
-    show::word(b" off");
-    show::answer(check_gate(table, turned_at_0(gate)));
+fn run_gate(rt: &impl Print, table: Table, gate: Gate) -> io::Result<()> {
+    show::word(rt, b" gate")?;
+    show::answer(rt, check_gate(table, gate))?;
+    show::word(rt, b" rows")?;
+    show::number(rt, agreeing_rows(table, gate))?;
+    show::word(rt, b" off")?;
+    show::answer(rt, check_gate(table, turned_at_0(gate)))
 }
 
 // Prints what the checker says of count 1 on each of the rows, and with the first row's count doubled.
-fn run_witness(table: Table, rows: &[u8]) {
-    show::word(b" witness");
-    show::answer(check_witness(table, witness_of(rows, 1)));
-    show::word(b" off");
-    show::answer(check_witness(table, witness_of(rows, 2)));
+fn run_witness(rt: &impl Print, table: Table, rows: &[u8]) -> io::Result<()> {
+    show::word(rt, b" witness")?;
+    show::answer(rt, check_witness(table, witness_of(rows, 1)))?;
+    show::word(rt, b" off")?;
+    show::answer(rt, check_witness(table, witness_of(rows, 2)))
 }
 
 // Prints q and the kinds of the n inputs, and ends the line.
-fn run_inputs(table: Table) -> bool {
+fn run_inputs(rt: &impl Print, table: Table) -> io::Result<bool> {
     let q = chow_parameters(table).q;
     let places = input_kinds(table).places;
     let n = table.n as usize;
-    show::word(b" q");
-    show_q(q, n);
-    show::word(b" kinds");
-    show_kinds(places, n);
-    show::word(b"\n");
-    past_is_idle(q, places, n)
+    show::word(rt, b" q")?;
+    show_q(rt, q, n)?;
+    show::word(rt, b" kinds")?;
+    show_kinds(rt, places, n)?;
+    show::word(rt, b"\n")?;
+    Ok(past_is_idle(q, places, n))
 }
 
 // Prints the q of the first n places.
-fn show_q(q: [i32; 8], n: usize) {
-    let mut place: usize = 0;
-    while place < 8 && place < n {
-        show::signed(q[place]);
-        place = place + 1;
+fn show_q(rt: &impl Print, q: [i32; 8], n: usize) -> io::Result<()> {
+    for parameter in q.iter().take(n) {
+        show::signed(rt, *parameter)?;
     }
+    Ok(())
 }
 
 // Prints the kinds of the first n places.
-fn show_kinds(places: [Place; 8], n: usize) {
-    let mut place: usize = 0;
-    while place < 8 && place < n {
-        let at = places[place];
-        let kind = at.kind;
-        show::kind(kind);
-        place = place + 1;
+fn show_kinds(rt: &impl Print, places: [Place; 8], n: usize) -> io::Result<()> {
+    for place in places.iter().take(n) {
+        show::kind(rt, place.kind)?;
     }
+    Ok(())
 }
 
 // Whether the places from n on are idle and 0.
 fn past_is_idle(q: [i32; 8], places: [Place; 8], n: usize) -> bool {
-    let mut place = n;
-    while place < 8 {
+    for place in n..8 {
         let at = places[place];
         let kind = at.kind;
         if q[place] != 0 || show::letter(kind) != b'i' {
             return false;
         }
-        place = place + 1;
     }
     true
 }
 
 // Returns the first row on which the table and the gate do not both say yes or both say no: the number of rows, where they agree on all.
 fn agreeing_rows(table: Table, gate: Gate) -> u64 {
-    let mut row: usize = 0;
-    while row < 256 && agree(table_value(table, row), gate_value(gate, row)) {
-        row = row + 1;
+    for row in 0..256 {
+        if !agree(table_value(table, row), gate_value(gate, row)) {
+            return row as u64;
+        }
     }
-    row as u64
+    256
 }
 
 // Whether both are yes or both no.
@@ -129,10 +125,8 @@ fn turned_at_0(gate: Gate) -> Gate {
 // Returns the gate of n inputs whose T and weights the words are.
 fn gate_of(n: u8, numbers: &[u8]) -> Gate {
     let mut weights = [0i32; 8];
-    let mut place: usize = 0;
-    while place < 8 {
+    for place in 0..8 {
         weights[place] = signed(word(numbers, place + 1));
-        place = place + 1;
     }
     Gate {
         n,
@@ -145,11 +139,13 @@ fn gate_of(n: u8, numbers: &[u8]) -> Gate {
 fn witness_of(rows: &[u8], once: u32) -> Witness {
     let mut counts = [0u32; 256];
     let mut count = once;
-    let mut k: usize = 0;
-    while k < 8 && word(rows, k).len() > 0 {
-        counts[number(word(rows, k)) as usize % 256] = count;
+    for k in 0..8 {
+        let row = word(rows, k);
+        if row.is_empty() {
+            break;
+        }
+        counts[number(row) as usize % 256] = count;
         count = 1;
-        k = k + 1;
     }
     Witness { counts }
 }

@@ -2,36 +2,39 @@
 // refusals of an order at once. The cases are the lines of standard input; a line that starts with # says what those after it are for. Prints
 // a line for each case, with what every call says.
 #![tactic(auto)]
+
 mod calls;
 mod print;
 
-use libc::STDIN_FILENO;
 use papers::line::line_end;
 use papers::show;
 use papers::text::first;
+use std::io;
+use std::io::Read;
 
 // Runs each line.
-fn run(lines: &[u8]) {
+fn run(rt: &impl Print, lines: &[u8]) -> io::Result<()> {
     let mut at: usize = 0;
     while at < lines.len() {
         let end = line_end(lines, at);
-        run_line(&lines[at..end]);
+        run_line(rt, &lines[at..end])?;
         at = end + 1;
     }
+    Ok(())
 }
 
 // Prints the line of a case, and what the calls say of it.
-fn run_line(line: &[u8]) {
+fn run_line(rt: &impl Print, line: &[u8]) -> io::Result<()> {
     if first(line) == b'#' {
-        return;
+        return Ok(());
     }
-    show::word(line);
-    calls::on_line(line);
-    show::word(b"\n");
+    show::word(rt, line)?;
+    calls::on_line(rt, line)?;
+    show::word(rt, b"\n")
 }
 
-fn main() {
-    let mut lines = [0u8; 16384];
-    let length = io::read_full(STDIN_FILENO, &mut lines);
-    run(&lines[..length]);
+fn main(rt: HostRuntime) -> io::Result<()> {
+    let mut lines = Vec::new(rt.alloc());
+    rt.reader().take(16384).read_to_end(&mut lines)?;
+    run(&rt, &lines)
 }

@@ -1,32 +1,29 @@
 // The parts of an answer on standard output.
 use papers::show;
 use refusal::refusal::Status;
+use std::io;
 use types::inputs::Place;
 
 // Writes done or a refusal's number.
-pub fn status(status: Status) {
+pub fn status(rt: &impl Print, status: Status) -> io::Result<()> {
     match status {
-        Status::Done => show::word(b" done"),
-        Status::Refused(number) => show::number(number as u64),
+        Status::Done => show::word(rt, b" done"),
+        Status::Refused(number) => show::number(rt, number as u64),
     }
 }
 
 // Writes the letters of all eight kinds.
-pub fn kinds(places: [Place; 8]) {
-    let mut place: usize = 0;
-    while place < 8 {
-        let at = places[place];
-        let kind = at.kind;
-        show::kind(kind);
-        place = place + 1;
+pub fn kinds(rt: &impl Print, places: [Place; 8]) -> io::Result<()> {
+    for place in &places {
+        show::kind(rt, place.kind)?;
     }
+    Ok(())
 }
 
 // Writes all eight numbers.
-pub fn numbers(q: [i32; 8]) {
-    let mut place: usize = 0;
-    while place < 8 {
-        show::signed(q[place]);
-        place = place + 1;
+pub fn numbers(rt: &impl Print, q: [i32; 8]) -> io::Result<()> {
+    for parameter in &q {
+        show::signed(rt, *parameter)?;
     }
+    Ok(())
 }

@@ -1,3 +1,4 @@
 // Prints a report on standard output.
 #![tactic(auto)]
+
 pub mod report;

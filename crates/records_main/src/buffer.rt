@@ -53,8 +53,7 @@ pub fn written(record: Read, room: usize) -> Buffer {
 
 // Whether a buffer holds some bytes at its start, and is blank after them.
 fn holds(buffer: [u8; 1300], bytes: &[u8]) -> bool {
-    let mut at: usize = 0;
-    while at < ROOM {
+    for at in 0..ROOM {
         let mut expected = BLANK;
         if at < bytes.len() {
             expected = bytes[at];
@@ -62,7 +61,6 @@ fn holds(buffer: [u8; 1300], bytes: &[u8]) -> bool {
         if buffer[at] != expected {
             return false;
         }
-        at = at + 1;
     }
     true
 }

@@ -5,6 +5,7 @@ use papers::show;
 use papers::text::{digit, word};
 use receiving::record::read;
 use records::read::Read;
+use std::io;
 use testing::parts::first_bytes;
 use testing::tally;
 
@@ -19,83 +20,80 @@ fn hex_digit(value: u8) -> u8 {
 }
 
 // Writes bytes in base sixteen.
-fn hex(bytes: &[u8]) {
-    let mut at: usize = 0;
-    while at < bytes.len() {
-        let byte = bytes[at];
-        show::word(&[hex_digit(byte / 16), hex_digit(byte)]);
-        at = at + 1;
+fn hex(rt: &impl Print, bytes: &[u8]) -> io::Result<()> {
+    for byte in bytes {
+        show::word(rt, &[hex_digit(*byte / 16), hex_digit(*byte)])?;
     }
+    Ok(())
 }
 
 // Prints the first line of a record: its name, its letter, its length and its bytes.
-fn show_bytes(line: &[u8], bytes: &[u8]) {
-    show::word(word(line, 0));
-    show::word(b" ");
-    show::word(word(line, 3));
-    show::number(bytes.len() as u64);
-    show::word(b" ");
-    hex(bytes);
-    show::word(b"\n");
+fn show_bytes(rt: &impl Print, line: &[u8], bytes: &[u8]) -> io::Result<()> {
+    show::word(rt, word(line, 0))?;
+    show::word(rt, b" ")?;
+    show::word(rt, word(line, 3))?;
+    show::number(rt, bytes.len() as u64)?;
+    show::word(rt, b" ")?;
+    hex(rt, bytes)?;
+    show::word(rt, b"\n")
 }
 
 // Prints whether a record's bytes are read as the record, and what comes of reading them from other positions, and of writing the
 // record into buffers of each length.
-fn show_whole(record: Read, bytes: &[u8]) {
-    show::word(b" read");
-    show::same(record::same(read(bytes), record));
-    tally::print(b" from", spoiled::tails(bytes));
-    tally::print(b" room", spoiled::rooms(record, bytes));
+fn show_whole(rt: &impl Print, record: Read, bytes: &[u8]) -> io::Result<()> {
+    show::word(rt, b" read")?;
+    show::same(rt, record::same(read(bytes), record))?;
+    tally::print(rt, b" from", spoiled::tails(bytes))?;
+    tally::print(rt, b" room", spoiled::rooms(record, bytes))
 }
 
 // Ends a line with what comes of reading a record cut and changed.
-fn show_spoiled(bytes: [u8; 1300], length: usize) {
-    tally::print(b" cut", spoiled::cut(&bytes, length));
-    tally::print(b" changed", spoiled::changes(bytes, length));
-    show::word(b"\n");
+fn show_spoiled(rt: &impl Print, bytes: [u8; 1300], length: usize) -> io::Result<()> {
+    tally::print(rt, b" cut", spoiled::cut(&bytes, length))?;
+    tally::print(rt, b" changed", spoiled::changes(bytes, length))?;
+    show::word(rt, b"\n")
 }
 
 // Prints both lines of a record.
-pub fn record(line: &[u8]) {
+pub fn record(rt: &impl Print, line: &[u8]) -> io::Result<()> {
     let record = record::of_line(line);
     let written = buffer::written(record, ROOM);
     let bytes = written.bytes;
     let length = written.length;
-    show_bytes(line, first_bytes(&bytes, length));
-    show::word(word(line, 0));
-    show_whole(record, first_bytes(&bytes, length));
-    show_spoiled(bytes, length);
+    show_bytes(rt, line, first_bytes(&bytes, length))?;
+    show::word(rt, word(line, 0))?;
+    show_whole(rt, record, first_bytes(&bytes, length))?;
+    show_spoiled(rt, bytes, length)
 }
 
 // Ends a line, with a word where something is wrong.
-fn end_line(is_right: bool) {
+fn end_line(rt: &impl Print, is_right: bool) -> io::Result<()> {
     if !is_right {
-        show::word(b" wrong");
+        show::word(rt, b" wrong")?;
     }
-    show::word(b"\n");
+    show::word(rt, b"\n")
 }
 
 // Prints the number that reading the first bytes gives, 0 for a record.
-fn show_reading(string: &[u8; 64], length: usize) {
+fn show_reading(rt: &impl Print, string: &[u8; 64], length: usize) -> io::Result<()> {
     let bytes = first_bytes(string, length);
     let answer = read(bytes);
     let kind = answer.kind;
-    show::word(b":");
-    show::number(record::number_of(kind) as u64);
-    end_line(spoiled::is_right_reading(answer, bytes));
+    show::word(rt, b":")?;
+    show::number(rt, record::number_of(kind) as u64)?;
+    end_line(rt, spoiled::is_right_reading(answer, bytes))
 }
 
 // Prints a line of a name and a byte string in base sixteen, and the number that reading the string gives.
-pub fn string(line: &[u8]) {
+pub fn string(rt: &impl Print, line: &[u8]) -> io::Result<()> {
     let digits = word(line, 1);
     let mut bytes = [0u8; 64];
-    let mut at: usize = 0;
-    while at < 128 && at < digits.len() {
+    let end = digits.len().min(128);
+    for at in 0..end {
         bytes[at / 2] = bytes[at / 2] << 4 | digit(digits[at]);
-        at = at + 1;
     }
-    show::word(line);
-    show_reading(&bytes, at / 2);
+    show::word(rt, line)?;
+    show_reading(rt, &bytes, end / 2)
 }
 
 // Whether writing a record into a long buffer and into none left what it must.
@@ -106,13 +104,13 @@ fn are_right(full: Buffer, empty: Buffer) -> bool {
 }
 
 // Prints a line, and the numbers that writing its record into a long buffer and into none gives.
-pub fn refusal(line: &[u8]) {
+pub fn refusal(rt: &impl Print, line: &[u8]) -> io::Result<()> {
     let record = record::of_line(line);
     let full = buffer::written(record, ROOM);
     let empty = buffer::written(record, 0);
-    show::word(line);
-    show::word(b":");
-    show::number(full.number as u64);
-    show::number(empty.number as u64);
-    end_line(are_right(full, empty));
+    show::word(rt, line)?;
+    show::word(rt, b":")?;
+    show::number(rt, full.number as u64)?;
+    show::number(rt, empty.number as u64)?;
+    end_line(rt, are_right(full, empty))
 }

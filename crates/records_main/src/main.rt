@@ -3,40 +3,45 @@
 // lines of standard input, each with its letter in front: r for a record of the set, s for a byte string, w for what a writer is given; a
 // line that starts with # says what those after it are for. Prints two lines for each record of the set, and one for each of the others.
 #![tactic(auto)]
+
 mod buffer;
 mod cases;
 mod record;
 mod spoiled;
 
-use libc::STDIN_FILENO;
 use papers::line::line_end;
 use papers::text::{first, words_from};
+use std::io;
+use std::io::Read;
 
 // Runs each line.
-fn run(lines: &[u8]) {
+fn run(rt: &impl Print, lines: &[u8]) -> io::Result<()> {
     let mut at: usize = 0;
     while at < lines.len() {
         let end = line_end(lines, at);
-        run_line(&lines[at..end]);
+        run_line(rt, &lines[at..end])?;
         at = end + 1;
     }
+    Ok(())
 }
 
 // Runs the case that the line's letter names.
-fn run_line(line: &[u8]) {
+fn run_line(rt: &impl Print, line: &[u8]) -> io::Result<()> {
     let letter = first(line);
     let case = words_from(line, 1);
     if letter == b'r' {
-        cases::record(case);
+        cases::record(rt, case)
     } else if letter == b's' {
-        cases::string(case);
+        cases::string(rt, case)
     } else if letter == b'w' {
-        cases::refusal(case);
+        cases::refusal(rt, case)
+    } else {
+        Ok(())
     }
 }
 
-fn main() {
-    let mut lines = [0u8; 32768];
-    let length = io::read_full(STDIN_FILENO, &mut lines);
-    run(&lines[..length]);
+fn main(rt: HostRuntime) -> io::Result<()> {
+    let mut lines = Vec::new(rt.alloc());
+    rt.reader().take(32768).read_to_end(&mut lines)?;
+    run(&rt, &lines)
 }

@@ -42,10 +42,8 @@ fn counted_first(tally: Tally, bytes: &[u8; 1300], length: usize) -> Tally {
 pub fn cut(bytes: &[u8; 1300], length: usize) -> Tally {
     let last = least(length, ROOM) + 2;
     let mut tally = tally::none();
-    let mut cut: usize = 0;
-    while cut <= last {
+    for cut in 0..last + 1 {
         tally = counted_first(tally, bytes, cut);
-        cut = cut + 1;
     }
     tally
 }
@@ -63,10 +61,8 @@ fn read_from(bytes: &[u8], at: usize) -> Read {
 pub fn tails(bytes: &[u8]) -> Tally {
     let last = least(bytes.len(), ROOM) + 2;
     let mut tally = tally::none();
-    let mut at: usize = 0;
-    while at <= last {
+    for at in 0..last + 1 {
         tally = counted(tally, read_from(bytes, at), rest(bytes, at));
-        at = at + 1;
     }
     tally
 }
@@ -88,7 +84,7 @@ fn changed(tally: Tally, original: [u8; 1300], length: usize, at: usize) -> Tall
     let step = stride(length);
     let mut added: usize = 1;
     while added < 256 {
-        bytes[at] = std::num::wrapping_add_u8(original[at], added as u8);
+        bytes[at] = original[at].wrapping_add(added as u8);
         next = counted_first(next, &bytes, length);
         added = added + step;
     }
@@ -99,10 +95,8 @@ fn changed(tally: Tally, original: [u8; 1300], length: usize, at: usize) -> Tall
 pub fn changes(original: [u8; 1300], length: usize) -> Tally {
     let end = least(length, ROOM);
     let mut tally = tally::none();
-    let mut at: usize = 0;
-    while at < end {
+    for at in 0..end {
         tally = changed(tally, original, length, at);
-        at = at + 1;
     }
     tally
 }
@@ -111,11 +105,9 @@ pub fn changes(original: [u8; 1300], length: usize) -> Tally {
 pub fn rooms(original: Read, bytes: &[u8]) -> Tally {
     let last = least(bytes.len(), ROOM) + 2;
     let mut tally = tally::none();
-    let mut room: usize = 0;
-    while room <= last {
+    for room in 0..last + 1 {
         let written = buffer::written(original, room);
         tally = tally::count(tally, written.number, is_right(written, bytes));
-        room = room + 1;
     }
     tally
 }

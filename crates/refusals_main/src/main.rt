@@ -1,6 +1,9 @@
 // Runs the six checked calls on arguments at the edge of each refusal, on several refusals at once, of which the soonest in the call's
 // order is given, and on extreme contents. Every row of the tables is cared for; `partial_main` has others. Prints what each call says.
 #![tactic(auto)]
+
+use std::io;
+
 mod gate_refusals;
 mod make;
 mod rows;
@@ -8,25 +11,25 @@ mod show;
 mod tables;
 mod witnesses;
 
-fn main() {
-    tables::inputs();
-    tables::spare_bits();
-    tables::spare_bytes();
-    tables::full();
-    rows::edges();
-    rows::extremes();
-    rows::table_value_order();
-    rows::gate_value_order();
-    gate_refusals::weights();
-    gate_refusals::thresholds();
-    gate_refusals::places();
-    gate_refusals::full();
-    gate_refusals::inputs();
-    gate_refusals::check_gate_order();
-    gate_refusals::verdicts();
-    witnesses::counts();
-    witnesses::rows();
-    witnesses::full();
-    witnesses::check_witness_order();
-    witnesses::verdicts();
+fn main(rt: HostRuntime) -> io::Result<()> {
+    tables::inputs(&rt)?;
+    tables::spare_bits(&rt)?;
+    tables::spare_bytes(&rt)?;
+    tables::full(&rt)?;
+    rows::edges(&rt)?;
+    rows::extremes(&rt)?;
+    rows::table_value_order(&rt)?;
+    rows::gate_value_order(&rt)?;
+    gate_refusals::weights(&rt)?;
+    gate_refusals::thresholds(&rt)?;
+    gate_refusals::places(&rt)?;
+    gate_refusals::full(&rt)?;
+    gate_refusals::inputs(&rt)?;
+    gate_refusals::check_gate_order(&rt)?;
+    gate_refusals::verdicts(&rt)?;
+    witnesses::counts(&rt)?;
+    witnesses::rows(&rt)?;
+    witnesses::full(&rt)?;
+    witnesses::check_witness_order(&rt)?;
+    witnesses::verdicts(&rt)
 }

@@ -7,114 +7,111 @@ use cell::chow::chow_parameters;
 use cell::inputs::input_kinds;
 use cell::value::table_value;
 use cell::whole::whole_table;
+use std::io;
 use types::inputs::{InputKind, Place};
 use types::table::Table;
 
 // n: 8 is accepted, 9 and more are 2, also where a bit is set that 3 would name.
-pub fn inputs() {
-    one(8, 0, 0);
-    one(9, 0, 0);
-    one(255, 0, 0);
-    one(9, 0, 255);
-    one(255, 31, 255);
+pub fn inputs(rt: &impl Print) -> io::Result<()> {
+    one(rt, 8, 0, 0)?;
+    one(rt, 9, 0, 0)?;
+    one(rt, 255, 0, 0)?;
+    one(rt, 9, 0, 255)?;
+    one(rt, 255, 31, 255)
 }
 
 // For n 0, 1 and 2 the last bit that is a row's, the first spare bit and the last one.
-pub fn spare_bits() {
-    one(0, 0, 1);
-    one(0, 0, 2);
-    one(0, 0, 128);
-    one(1, 0, 2);
-    one(1, 0, 4);
-    one(1, 0, 128);
-    one(2, 0, 8);
-    one(2, 0, 16);
-    one(2, 0, 128);
+pub fn spare_bits(rt: &impl Print) -> io::Result<()> {
+    one(rt, 0, 0, 1)?;
+    one(rt, 0, 0, 2)?;
+    one(rt, 0, 0, 128)?;
+    one(rt, 1, 0, 2)?;
+    one(rt, 1, 0, 4)?;
+    one(rt, 1, 0, 128)?;
+    one(rt, 2, 0, 8)?;
+    one(rt, 2, 0, 16)?;
+    one(rt, 2, 0, 128)
 }
 
 // For each n the last byte of the length, where no bit is spare, the first byte past it, and the last of the array.
-pub fn spare_bytes() {
-    one(0, 1, 1);
-    one(0, 31, 128);
-    one(1, 1, 1);
-    one(1, 31, 128);
-    one(2, 1, 1);
-    one(2, 31, 128);
-    one(3, 0, 128);
-    one(3, 1, 1);
-    one(3, 31, 128);
-    one(4, 1, 128);
-    one(4, 2, 1);
-    one(4, 31, 128);
-    one(5, 3, 128);
-    one(5, 4, 1);
-    one(5, 31, 128);
-    one(6, 7, 128);
-    one(6, 8, 1);
-    one(6, 31, 128);
-    one(7, 15, 128);
-    one(7, 16, 1);
-    one(7, 31, 128);
-    one(8, 31, 128);
+pub fn spare_bytes(rt: &impl Print) -> io::Result<()> {
+    one(rt, 0, 1, 1)?;
+    one(rt, 0, 31, 128)?;
+    one(rt, 1, 1, 1)?;
+    one(rt, 1, 31, 128)?;
+    one(rt, 2, 1, 1)?;
+    one(rt, 2, 31, 128)?;
+    one(rt, 3, 0, 128)?;
+    one(rt, 3, 1, 1)?;
+    one(rt, 3, 31, 128)?;
+    one(rt, 4, 1, 128)?;
+    one(rt, 4, 2, 1)?;
+    one(rt, 4, 31, 128)?;
+    one(rt, 5, 3, 128)?;
+    one(rt, 5, 4, 1)?;
+    one(rt, 5, 31, 128)?;
+    one(rt, 6, 7, 128)?;
+    one(rt, 6, 8, 1)?;
+    one(rt, 6, 31, 128)?;
+    one(rt, 7, 15, 128)?;
+    one(rt, 7, 16, 1)?;
+    one(rt, 7, 31, 128)?;
+    one(rt, 8, 31, 128)
 }
 
 // Every bit set.
-pub fn full() {
-    all(0);
-    all(7);
-    all(8);
-    all(9);
-    all(255);
+pub fn full(rt: &impl Print) -> io::Result<()> {
+    all(rt, 0)?;
+    all(rt, 7)?;
+    all(rt, 8)?;
+    all(rt, 9)?;
+    all(rt, 255)
 }
 
-fn one(n: u8, at: usize, byte: u8)
+fn one(rt: &impl Print, n: u8, at: usize, byte: u8) -> io::Result<()>
     requires { at < 32 }
 {
-    show::table(n, at, byte);
-    calls(make::table(n, at, byte));
+    show::table(rt, n, at, byte)?;
+    calls(rt, make::table(n, at, byte))
 }
 
-fn all(n: u8) {
-    show::field(b"table n ", n as u64);
-    show::word(b" all bytes 255");
-    calls(whole_table(n, [255u8; 32]));
+fn all(rt: &impl Print, n: u8) -> io::Result<()> {
+    show::field(rt, b"table n ", n as u64)?;
+    show::word(rt, b" all bytes 255")?;
+    calls(rt, whole_table(n, [255u8; 32]))
 }
 
 // The row is 0, the gate is true on every row, and the witness counts row 0 alone.
-fn calls(table: Table) {
-    show::answer(b": table_value", table_value(table, 0));
+fn calls(rt: &impl Print, table: Table) -> io::Result<()> {
+    show::answer(rt, b": table_value", table_value(table, 0))?;
     let gate = make::gate(table.n, 0, 0, 0);
-    show::answer(b" check_gate", check_gate(table, gate));
+    show::answer(rt, b" check_gate", check_gate(table, gate))?;
     let witness = make::witness(0, 1);
-    show::answer(b" check_witness", check_witness(table, witness));
-    show_kinds(table);
-    show_chow(table);
-    show::end();
+    show::answer(rt, b" check_witness", check_witness(table, witness))?;
+    show_kinds(rt, table)?;
+    show_chow(rt, table)?;
+    show::end(rt)
 }
 
-fn show_kinds(table: Table) {
+fn show_kinds(rt: &impl Print, table: Table) -> io::Result<()> {
     let kinds = input_kinds(table);
     let status = kinds.status;
     let places = kinds.places;
-    show::status(b" input_kinds", status, b" idle", all_idle(places));
+    show::status(rt, b" input_kinds", status, b" idle", all_idle(places))
 }
 
-fn show_chow(table: Table) {
+fn show_chow(rt: &impl Print, table: Table) -> io::Result<()> {
     let chow = chow_parameters(table);
     let status = chow.status;
     let q = chow.q;
-    show::status(b" chow_parameters", status, b" zero", all_0(q));
+    show::status(rt, b" chow_parameters", status, b" zero", all_0(q))
 }
 
 fn all_idle(places: [Place; 8]) -> bool {
-    let mut at: usize = 0;
-    while at < 8 {
-        let place = places[at];
-        let kind = place.kind;
-        if !is_idle(kind) {
+    for place in &places {
+        if !is_idle(place.kind) {
             return false;
         }
-        at = at + 1;
     }
     true
 }
@@ -129,12 +126,10 @@ fn is_idle(kind: InputKind) -> bool {
 }
 
 fn all_0(q: [i32; 8]) -> bool {
-    let mut at: usize = 0;
-    while at < 8 {
-        if q[at] != 0 {
+    for parameter in &q {
+        if *parameter != 0 {
             return false;
         }
-        at = at + 1;
     }
     true
 }

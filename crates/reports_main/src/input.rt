@@ -2,6 +2,7 @@
 use papers::show;
 use papers::text::{digit, number, word};
 use printing::report::print_report;
+use std::io;
 use testing::parts::first_bytes;
 
 // The length of the buffer: more than the longest input of the lists.
@@ -37,10 +38,8 @@ fn put_bytes(out: &mut [u8; 65600], at: usize, digits: &[u8]) -> usize {
 // Puts bytes in base sixteen a number of times.
 fn put_part(out: &mut [u8; 65600], at: usize, times: u16, digits: &[u8]) -> usize {
     let mut next = at;
-    let mut left = times;
-    while 0 < left {
+    for _ in 0..times {
         next = put_bytes(out, next, digits);
-        left = left - 1;
     }
     next
 }
@@ -58,15 +57,15 @@ fn put_parts(out: &mut [u8; 65600], line: &[u8]) -> usize {
 }
 
 // Prints the report of the first bytes.
-fn print_first(bytes: &[u8; 65600], length: usize) {
-    print_report(first_bytes(bytes, length));
+fn print_first(rt: &impl Print, bytes: &[u8; 65600], length: usize) -> io::Result<()> {
+    print_report(rt, first_bytes(bytes, length))
 }
 
 // Prints a line, and the report of its input.
-pub fn run(line: &[u8]) {
+pub fn run(rt: &impl Print, line: &[u8]) -> io::Result<()> {
     let mut input = [0u8; 65600];
     let length = put_parts(&mut input, line);
-    show::word(line);
-    show::word(b"\n");
-    print_first(&input, length);
+    show::word(rt, line)?;
+    show::word(rt, b"\n")?;
+    print_first(rt, &input, length)
 }

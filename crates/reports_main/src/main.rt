@@ -1,26 +1,29 @@
 // Prints the reports of inputs: whole records, a refusal of each number, means on a half and beside one, the longest input, large sums, and
 // tables with rows that are not cared for. Each comes after a line that names and spells the input.
 #![tactic(auto)]
+
 mod input;
 mod inputs;
 
 use papers::line::line_end;
+use std::io;
 
 // Runs each line.
-fn run(lines: &[u8]) {
+fn run(rt: &impl Print, lines: &[u8]) -> io::Result<()> {
     let mut at: usize = 0;
     while at < lines.len() {
         let end = line_end(lines, at);
-        input::run(&lines[at..end]);
+        input::run(rt, &lines[at..end])?;
         at = end + 1;
     }
+    Ok(())
 }
 
-fn main() {
-    run(&inputs::WHOLE);
-    run(&inputs::REFUSED);
-    run(&inputs::MEANS);
-    run(&inputs::LONG);
-    run(&inputs::SUMS);
-    run(&inputs::PARTIAL);
+fn main(rt: HostRuntime) -> io::Result<()> {
+    run(&rt, &inputs::WHOLE)?;
+    run(&rt, &inputs::REFUSED)?;
+    run(&rt, &inputs::MEANS)?;
+    run(&rt, &inputs::LONG)?;
+    run(&rt, &inputs::SUMS)?;
+    run(&rt, &inputs::PARTIAL)
 }

@@ -13,8 +13,8 @@ use types::table::Table;
 // Repeats the bits of so many rows until 32 rows have one.
 fn repeat_rows(bits: &mut [bool; 256], rows: usize)
     requires { (0 < rows) × (length bits.old ≡ 256) }
-    ensures by_index { (row : ℕ) → row < 32 → get_or bits.new row false ≡ get_or bits.old (row % rows) false }
-    ensures by_index_2 { (row : ℕ) → 32 ≤ row → get_or bits.new row false ≡ get_or bits.old row false }
+    ensures repeated { (row : ℕ) → row < 32 → get_or bits.new row false ≡ get_or bits.old (row % rows) false }
+    ensures kept { (row : ℕ) → 32 ≤ row → get_or bits.new row false ≡ get_or bits.old row false }
 {
     let mut row = rows;
     while row < 32 {
@@ -85,7 +85,7 @@ fn lane_trues(table: Table) -> [bool; 256]
 // Stores what is taken from the distance of each row of the blocks where every row is cared for: 1 where it goes as a true one.
 fn store_trues(ones: &mut [i16; 256], table: Table, trues: &[bool; 256])
     requires n_bound { (table.n ≤ 8) × ((row : ℕ) → row < rows table → cared table row ≡ true) }
-    requires by_index { ((row : ℕ) → row < lane_rows table.n → get_or trues.now row false ≡ goes_true table row) × (length ones.old ≡ 256) }
+    requires trues_are { ((row : ℕ) → row < lane_rows table.n → get_or trues.now row false ≡ goes_true table row) × (length ones.old ≡ 256) }
     ensures { Holds (one_of table) (lane_rows table.n) ones.new }
 {
     let rows = 32 * block_count(table.n);
@@ -100,7 +100,7 @@ fn store_trues(ones: &mut [i16; 256], table: Table, trues: &[bool; 256])
 // Stores what is taken from the distance of each row of the blocks: 1 where it goes as a true one, 16,384 where it is not cared for.
 fn store_ones(ones: &mut [i16; 256], table: Table, frees: &[bool; 256], trues: &[bool; 256])
     requires n_bound { (table.n ≤ 8) × ((row : ℕ) → row < lane_rows table.n → get_or frees.now row false ≡ not (lane_cared table row)) }
-    requires by_index { ((row : ℕ) → row < lane_rows table.n → get_or trues.now row false ≡ goes_true table row) × (length ones.old ≡ 256) }
+    requires trues_are { ((row : ℕ) → row < lane_rows table.n → get_or trues.now row false ≡ goes_true table row) × (length ones.old ≡ 256) }
     ensures { Holds (one_of table) (lane_rows table.n) ones.new }
 {
     let rows = 32 * block_count(table.n);

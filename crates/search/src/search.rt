@@ -17,7 +17,7 @@ use types::table::Table;
 // Returns the least key of a block. The sign of a row's difference flips its key, which is negative where the row fails.
 fn least_key(sums: &[i16; 40], high: i16, ones: &[i16], keys: &[i16]) -> i16
     requires ones_len { (length ones.now ≡ 32) × (length keys.now ≡ 32) }
-    requires by_index { (q : ℕ) → q < 32 → nat_abs (get_or sums.now q (pos 0)) + nat_abs high + nat_abs (get_or ones.now q (pos 0)) < 2 ^ 15 }
+    requires room { (q : ℕ) → q < 32 → nat_abs (get_or sums.now q (pos 0)) + nat_abs high + nat_abs (get_or ones.now q (pos 0)) < 2 ^ 15 }
     ensures { result ≡ least_below 32 (block_key sums.now high ones.now keys.now) }
 {
     let mut least: i16 = 32767;

@@ -14,14 +14,7 @@ use types::vector::Vector;
 fn same_bytes(x: [u8; 32], y: [u8; 32]) -> bool
     ensures { result ≡ true ↔ x ≡ y }
 {
-    let mut at: usize = 0;
-    while at < 32 {
-        if x[at] != y[at] {
-            return false;
-        }
-        at = at + 1;
-    }
-    true
+    x == y
 }
 
 // Whether the tables are the same.

@@ -11,10 +11,8 @@ use types::vector::Vector;
 // Returns the number that a word spells in base ten, modulo 2^32.
 fn number(word: &[u8]) -> u32 {
     let mut value: u64 = 0;
-    let mut at: usize = 0;
-    while at < word.len() {
-        value = (10 * value + digit(word[at]) as u64) % 4_294_967_296;
-        at = at + 1;
+    for letter in word {
+        value = (10 * value + digit(*letter) as u64) % 4_294_967_296;
     }
     value as u32
 }

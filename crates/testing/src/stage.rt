@@ -1,5 +1,6 @@
 // The stage of a job by its letter.
 use papers::show::word;
+use std::io;
 use types::stage::Stage;
 
 // Returns the letter of a stage.
@@ -27,7 +28,7 @@ pub fn of(letter: u8) -> Stage {
 }
 
 // Writes a stage's letter.
-pub fn show(stage: Stage) {
-    word(b" stage ");
-    word(&[letter(stage)]);
+pub fn show(rt: &impl Print, stage: Stage) -> io::Result<()> {
+    word(rt, b" stage ")?;
+    word(rt, &[letter(stage)])
 }

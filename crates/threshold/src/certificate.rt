@@ -8,16 +8,14 @@ use receiving::record::read;
 
 // Returns 1 if the gate of a kind 2 record realises its table, or the witness of a kind 3 record balances, and 0 if not. Refusals: 1 to 9 and 16
 // as the record is read, 100 for another kind.
-#[unsafe(no_mangle)]
-pub extern "C" fn threshold_check(bytes: &[u8]) -> i64
+pub fn threshold_check(bytes: &[u8]) -> i64
     ensures { result ≡ as_result (check bytes.now) }
 {
     check_read(read(bytes))
 }
 
 // Returns the kind of a record that is whole and right, 1 to 6. Refusals: 1 to 9 and 16 as the record is read.
-#[unsafe(no_mangle)]
-pub extern "C" fn threshold_kind(bytes: &[u8]) -> i64
+pub fn threshold_kind(bytes: &[u8]) -> i64
     ensures { result ≡ as_result (kind bytes.now) }
 {
     kind_read(read(bytes))
@@ -25,8 +23,7 @@ pub extern "C" fn threshold_kind(bytes: &[u8]) -> i64
 
 // Returns the value of a kind 1 or 5 record's table on a row, or of a kind 2 record's gate: 0 or 1. Refusals: 1 to 9 and 16 as the record is
 // read, 100 for another kind, 14.
-#[unsafe(no_mangle)]
-pub extern "C" fn threshold_value(bytes: &[u8], row: u32) -> i64
+pub fn threshold_value(bytes: &[u8], row: u32) -> i64
     ensures { result ≡ as_result (value_on bytes.now row) }
 {
     value_read(read(bytes), row)

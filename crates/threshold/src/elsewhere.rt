@@ -9,8 +9,7 @@ use words::words::{from_cares, from_words};
 
 // Writes the table of so many inputs that hex digits stand for, the digit of the highest rows first, kind 1. Returns the length. Refusals: 2,
 // 101, 102, 12.
-#[unsafe(no_mangle)]
-pub extern "C" fn threshold_from_hex(inputs: u32, digits: &[u8], out: &mut [u8]) -> i64
+pub fn threshold_from_hex(inputs: u32, digits: &[u8], out: &mut [u8]) -> i64
     ensures { Returned (from_hex inputs digits.now (length out.old)) out.old result out.new }
 {
     from_hex(inputs, digits, out)
@@ -18,8 +17,7 @@ pub extern "C" fn threshold_from_hex(inputs: u32, digits: &[u8], out: &mut [u8])
 
 // Writes the table of so many inputs that words of 64 rows stand for, the word of the lowest rows first, kind 1. Returns the length. Refusals:
 // 2, 103, 12.
-#[unsafe(no_mangle)]
-pub extern "C" fn threshold_from_words(inputs: u32, words: &[u64], out: &mut [u8]) -> i64
+pub fn threshold_from_words(inputs: u32, words: &[u64], out: &mut [u8]) -> i64
     ensures { Returned (from_words inputs words.now (length out.old)) out.old result out.new }
 {
     from_words(inputs, words, out)
@@ -27,13 +25,7 @@ pub extern "C" fn threshold_from_words(inputs: u32, words: &[u64], out: &mut [u8
 
 // Writes the table of so many inputs that words of 64 rows stand for, with the rows cared for that care words stand for: kind 1 if every row is,
 // else kind 5. Returns the length. Refusals: 2, 103 of either, 16, 12.
-#[unsafe(no_mangle)]
-pub extern "C" fn threshold_from_cares(
-    inputs: u32,
-    words: &[u64],
-    cares: &[u64],
-    out: &mut [u8],
-) -> i64
+pub fn threshold_from_cares(inputs: u32, words: &[u64], cares: &[u64], out: &mut [u8]) -> i64
     ensures { Returned (from_cares inputs words.now cares.now (length out.old)) out.old result out.new }
 {
     from_cares(inputs, words, cares, out)

@@ -9,8 +9,7 @@ use found_within::found::{find_gate, find_witness};
 // Carries the fresh job of a kind 1 or 5 record's table, or the job of a kind 4 or 6 record, on by a budget. If it has found a gate, writes its
 // weights, from input 1 on, sets `threshold` to T and `made` to the corrections made, and returns n. Refusals: 1 to 9 and 16 as the record is
 // read, 100 for another kind, 10, 11, 105, 12.
-#[unsafe(no_mangle)]
-pub extern "C" fn threshold_find_gate(
+pub fn threshold_find_gate(
     bytes: &[u8],
     budget: u32,
     weights: &mut [i32],
@@ -25,13 +24,7 @@ pub extern "C" fn threshold_find_gate(
 
 // The same for a witness: if the job has ended with one, writes the count of each row, from row 0 on, sets `made`, and returns the number of
 // rows. Refusals: those of `threshold_find_gate`.
-#[unsafe(no_mangle)]
-pub extern "C" fn threshold_find_witness(
-    bytes: &[u8],
-    budget: u32,
-    counts: &mut [u32],
-    made: &mut u32,
-) -> i64
+pub fn threshold_find_witness(bytes: &[u8], budget: u32, counts: &mut [u32], made: &mut u32) -> i64
     ensures { HandedOver (find_witness bytes.now budget (length counts.old)) counts.old made.old
         result counts.new made.new }
 {

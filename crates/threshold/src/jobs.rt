@@ -15,8 +15,7 @@ use types::kind::Kind;
 // Decides the table of a kind 1 or 5 record: writes its gate (kind 2), its witness (kind 3), or the job that is open after 100,000 corrections
 // (kind 4 or 6), and sets `made` to the corrections made. Returns the length. Refusals: 1 to 9 and 16 as the record is read, 100 for another
 // kind, 16 of a gate or a witness where a row is not cared for, 12.
-#[unsafe(no_mangle)]
-pub extern "C" fn threshold_decide(bytes: &[u8], out: &mut [u8], made: &mut u32) -> i64
+pub fn threshold_decide(bytes: &[u8], out: &mut [u8], made: &mut u32) -> i64
     ensures { HandedOver (decide bytes.now (length out.old)) out.old made.old result out.new made.new }
 {
     let given = read(bytes);
@@ -29,13 +28,7 @@ pub extern "C" fn threshold_decide(bytes: &[u8], out: &mut [u8], made: &mut u32)
 
 // Carries the open job of a kind 4 or 6 record on by a budget; writes what it has come to and sets `made`, as `threshold_decide` does. Returns
 // the length. Refusals: 1 to 9 and 16 as the record is read, 100 for another kind, 10, 11, 16 as there, 12.
-#[unsafe(no_mangle)]
-pub extern "C" fn threshold_carry_on(
-    bytes: &[u8],
-    budget: u32,
-    out: &mut [u8],
-    made: &mut u32,
-) -> i64
+pub fn threshold_carry_on(bytes: &[u8], budget: u32, out: &mut [u8], made: &mut u32) -> i64
     ensures { HandedOver (carried_on bytes.now budget (length out.old)) out.old made.old result out.new made.new }
 {
     let given = read(bytes);
@@ -48,16 +41,14 @@ pub extern "C" fn threshold_carry_on(
 
 // Writes the fresh job of a kind 1 or 5 record's table, kind 4 or 6, or the witness that it has ended with, kind 3. Returns the length. Refusals:
 // 1 to 9 and 16 as the record is read, 100 for another kind, 16 of a job that has ended where a row is not cared for, 12.
-#[unsafe(no_mangle)]
-pub extern "C" fn threshold_fresh(bytes: &[u8], out: &mut [u8]) -> i64
+pub fn threshold_fresh(bytes: &[u8], out: &mut [u8]) -> i64
     ensures { Returned (fresh_record bytes.now (length out.old)) out.old result out.new }
 {
     fresh_record(bytes, out)
 }
 
 // Returns the corrections that a kind 4 or 6 record's job has made, K. Refusals: 1 to 9 and 16 as the record is read, 100 for another kind.
-#[unsafe(no_mangle)]
-pub extern "C" fn threshold_corrections(bytes: &[u8]) -> i64
+pub fn threshold_corrections(bytes: &[u8]) -> i64
     ensures { result ≡ as_result (corrections bytes.now) }
 {
     job_corrections(bytes)

@@ -27,8 +27,7 @@ fn on_table(asked: Asked, bytes: &[u8], out: &mut [u8]) -> i64
 
 // Writes the kind of each input of a kind 1 or 5 record's table, a byte each: 0 idle, 1 rising, 2 falling, 3 binate; past n idle. Returns 8.
 // Refusals: 1 to 9 and 16 as the record is read, 100 for another kind, 12.
-#[unsafe(no_mangle)]
-pub extern "C" fn threshold_kinds(bytes: &[u8], out: &mut [u8]) -> i64
+pub fn threshold_kinds(bytes: &[u8], out: &mut [u8]) -> i64
     ensures { Returned (kinds bytes.now (length out.old)) out.old result out.new }
 {
     on_table(Asked::Kinds, bytes, out)
@@ -36,8 +35,7 @@ pub extern "C" fn threshold_kinds(bytes: &[u8], out: &mut [u8]) -> i64
 
 // Writes Chow's parameter q of each input of a kind 1 or 5 record's table as a signed number of two bytes, low byte first; past n 0. Returns 16.
 // Refusals: 1 to 9 and 16 as the record is read, 100 for another kind, 12.
-#[unsafe(no_mangle)]
-pub extern "C" fn threshold_chow(bytes: &[u8], out: &mut [u8]) -> i64
+pub fn threshold_chow(bytes: &[u8], out: &mut [u8]) -> i64
     ensures { Returned (chow bytes.now (length out.old)) out.old result out.new }
 {
     on_table(Asked::Chow, bytes, out)

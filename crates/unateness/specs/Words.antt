@@ -32,8 +32,8 @@ abbrev pub lacks : ℕ → ℕ → Bool
 lacks place r = eqb (level 2 r place) 0
 
 -- row r's bit where r lacks the place's input
-abbrev pub field_own : (ℕ → Bool) → ℕ → ℕ → Bool
-field_own f place r = lacks place r && f r
+abbrev pub own_at : (ℕ → Bool) → ℕ → ℕ → Bool
+own_at f place r = lacks place r && f r
 
 -- and the bit of its partner, the row with the input true besides
 abbrev pub partner_at : (ℕ → Bool) → ℕ → ℕ → Bool
@@ -41,4 +41,4 @@ partner_at f place r = lacks place r && f (r + 2 ^ place)
 
 -- word k of the pairs of a place's input
 abbrev pub pairs_of : (ℕ → Bool) → ℕ → ℕ → Pairs
-pairs_of f place k = record { own = word_of (field_own f place) k; partner = word_of (partner_at f place) k }
+pairs_of f place k = record { own = word_of (own_at f place) k; partner = word_of (partner_at f place) k }

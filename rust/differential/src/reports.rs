@@ -7,7 +7,7 @@ use reference::report::{report, LONGEST};
 use std::io::{self, Write};
 use std::process::{Command, Stdio};
 
-/// The program, which `rt check report` proves and builds.
+/// The program, which `./build report` proves and builds.
 const PROGRAM: &str = concat!(env!("CARGO_MANIFEST_DIR"), "/../../target/bin/report");
 /// The stored run: for each input a line that names and spells it, and its report.
 const STORED: &str = include_str!("../../../crates/reports_main/stdout");

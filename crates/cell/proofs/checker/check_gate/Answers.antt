@@ -1,7 +1,6 @@
 -- `crate::checker::check_gate` meets its contract: the rules of a table with a gate, by `gate_status`, and then the test. Assumes nothing.
 use mathlib.Core.Path.{◌∙◌}
 use mathlib.Core.List.{[]}
-use borrow.Author.Rules.{rules}
 use Rattle.table.specs.Table.{function_of}
 use Rattle.function.specs.Gate.{realises}
 use Rattle.cell.specs.Calls.{gate_rules}

@@ -2,7 +2,6 @@
 -- Assumes nothing.
 use mathlib.Core.Path.{◌∙◌}
 use mathlib.Core.List.{[]}
-use borrow.Author.Rules.{rules}
 use Rattle.table.specs.Table.{function_of}
 use Rattle.function.specs.Witness.{count_of, balances}
 use Rattle.cell.specs.Calls.{witness_rules}

@@ -2,17 +2,18 @@
 use mathlib.Core.Path.{◌≡◌, sym, ◌∙◌, ap}
 use mathlib.Core.Bool.{not}
 use mathlib.Core.List.{List, [], ◌∷◌}
-use borrow.Author.Rules.{rules}
 use borrow.Author.Tests.{eq-eqb, ne_eqb}
+use Rattle.types.specs.declared.table.Table.{Table}
 use Rattle.types.specs.declared.gate.Gate.{Gate}
+use Rattle.refusal.specs.declared.refusal.Status.{Status}
+use Rattle.refusal.specs.declared.refusal.Status.TheVariants as Status'
 use Rattle.refusal.specs.Refusal.{Rule, Answered, answered, checked}
 use Rattle.cell.specs.Calls.{gate_range, gate_checked}
-use Rattle.refusal.specs.TableRules.{table_rules}
+use Rattle.refusal.specs.TableRules.{table_rules, table_checked}
 use Rattle.refusal.specs.Answers.{status}
 use Rattle.refusal.proofs.RefusalLaws.{rule_broken, rule_kept}
 use Rattle.refusal.proofs.TableChecked.{table_refused, table_passed}
 use Rattle.cell.proofs.checker.gate_status.Goals as goal
-use Rattle.cell.proofs.checker.gate_status.Goals.{Else-gate-table, In_default}
 
 abbrev others : Gate → List Rule
 others g = gate_range g ∷ []
@@ -25,25 +26,29 @@ returns-then-gate-table c =
     let a = c.args in
     ap status (rule_broken 2 (table_rules a.table (others a.gate)) done (ap not (ne_eqb _ _ c.if-gate-table.true)))
 
--- past the gate's n
-same_inputs : (c : Else-gate-table) {next : Answered (Unit {0})} → let a = c.args in next ≡ checked (table_rules a.table (others a.gate)) done → status next ≡ status (gate_checked a.table a.gate)
-same_inputs c e =
-    let a = c.args in
-    ap status (e ∙ rule_kept 2 (table_rules a.table (others a.gate)) done (ap not (eq-eqb _ _ c.if-gate-table.false)))
+module _ (t : Table) (g : Gate) (equal : g.n ≡ t.n) where
+  -- past the gate's n
+  same_inputs : {next : Answered (Unit {0})} → next ≡ checked (table_rules t (others g)) done → status next ≡ status (gate_checked t g)
+  same_inputs e = ap status (e ∙ rule_kept 2 (table_rules t (others g)) done (ap not (eq-eqb _ _ equal)))
+
+  -- past the table's rules
+  passed : {s : Status} → s ≡ status (table_checked t) → s ≡ Status'.Done → {next : Answered (Unit {0})} → next ≡ checked (others g) done
+      → status next ≡ status (gate_checked t g)
+  passed says e same = same_inputs (same ∙ table_passed t says (others g) done e)
 
 pub returns-in-Refused : goal.returns-in-Refused
 returns-in-Refused c =
     let a = c.args in
-    same_inputs (goal.at.returns-in-Refused c).Else-gate-table (table_refused a.table c.table_status-status.ensures (others a.gate) done c.in-Refused.is)
-
--- past the table's rules
-passed : (c : In_default) {next : Answered (Unit {0})} → let a = c.args in next ≡ checked (others a.gate) done → status next ≡ status (gate_checked a.table a.gate)
-passed c e =
-    let a = c.args in
-    same_inputs c.before.before.before (e ∙ table_passed a.table c.table_status-status.ensures (others a.gate) done c.in_default.is)
+    same_inputs a.table a.gate c.if-gate-table.false (table_refused a.table c.table_status-status.ensures (others a.gate) done c.in-Refused.is)
 
 pub returns-then-gate_beyond : goal.returns-then-gate_beyond
-returns-then-gate_beyond c = passed (goal.at.returns-then-gate_beyond c).In_default (rule_broken 7 [] done (sym c.gate_beyond.ensures ∙ c.if-gate_beyond.true))
+returns-then-gate_beyond c =
+    let a = c.args in
+    passed a.table a.gate c.if-gate-table.false c.table_status-status.ensures c.in_default.is
+    (rule_broken 7 [] done (sym c.gate_beyond.ensures ∙ c.if-gate_beyond.true))
 
 pub returns : goal.returns
-returns c = passed (goal.at.returns c).In_default (rule_kept 7 [] done (sym c.gate_beyond.ensures ∙ c.if-gate_beyond.false))
+returns c =
+    let a = c.args in
+    passed a.table a.gate c.if-gate-table.false c.table_status-status.ensures c.in_default.is
+    (rule_kept 7 [] done (sym c.gate_beyond.ensures ∙ c.if-gate_beyond.false))

@@ -1,7 +1,6 @@
 -- `crate::checker::witness_status` meets its contract: the table's rules first, by `table_status`, and then the witness's. Assumes nothing.
 use mathlib.Core.Path.{◌≡◌, sym, ◌∙◌, ap}
 use mathlib.Core.List.{List, [], ◌∷◌}
-use borrow.Author.Rules.{rules}
 use Rattle.types.specs.declared.table.Table.{Table}
 use Rattle.types.specs.declared.witness.Witness.{Witness}
 use Rattle.refusal.specs.Refusal.{Rule, Answered, answered, checked}

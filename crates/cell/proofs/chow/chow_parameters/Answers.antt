@@ -1,6 +1,5 @@
 -- `crate::chow::chow_parameters` meets its contract: the table's rules, by `table_status`, and then the values. Assumes nothing.
 use mathlib.Core.List.{[]}
-use borrow.Author.Rules.{rules}
 use Rattle.table.specs.Chow.{chow_of}
 use Rattle.cell.specs.Places.{chow}
 use Rattle.refusal.specs.TableRules.{table_rules}

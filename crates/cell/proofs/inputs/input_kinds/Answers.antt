@@ -1,6 +1,5 @@
 -- `crate::inputs::input_kinds` meets its contract: the table's rules, by `table_status`, and then the values. Assumes nothing.
 use mathlib.Core.List.{[]}
-use borrow.Author.Rules.{rules}
 use Rattle.table.specs.Inputs.{kinds_of}
 use Rattle.cell.specs.Places.{kinds}
 use Rattle.refusal.specs.TableRules.{table_rules}

@@ -1,7 +1,6 @@
 -- `crate::whole::whole_table` meets its contract: the test of n says which table it is. Assumes nothing.
 use mathlib.Core.Path.{sym, ◌∙◌}
 use native.Mathlib.Omega.{arith}
-use borrow.Author.Rules.{rules}
 use borrow.Author.Tests.{lt-ltb}
 use Rattle.cell.proofs.WholeLaws.{as_whole_lem}
 use Rattle.cell.proofs.whole.whole_table.Goals as goal

@@ -1,7 +1,6 @@
 -- `crate::kind::any_kind` meets its contract: a byte is that of one kind, or of none. Assumes nothing.
 use mathlib.Core.Path.{◌≡◌, ◌∙◌}
 use native.Mathlib.Omega.{arith}
-use borrow.Author.Rules.{rules}
 use borrow.Author.Tests.{ne_eqb}
 use Rattle.codec.specs.Kind.{head_among}
 use Rattle.heads.proofs.kind.any_kind.Goals as goal

@@ -4,7 +4,6 @@ use mathlib.Core.List.{List}
 use Prim.Native.Nat.{ℕ, ◌+◌, ◌≤◌, ◌<◌}
 use native.Mathlib.Omega.{arith}
 use lib.ListN.{length, get_or}
-use borrow.Author.Rules.{rules}
 use borrow.Author.Tests.{lt-ltb, le-ltb}
 use Rattle.refusal.specs.Refusal.{Answered, answered, refused, and_then}
 use Rattle.codec.specs.Field.{field}
@@ -12,7 +11,6 @@ use Rattle.codec.specs.Kind.{Head, head_among, kind_at}
 use Rattle.heads.specs.Heads.{kind_byte, taken_by, kind_field}
 use Rattle.heads.proofs.HeadFacts.{head_is, head_refused, head_whole}
 use Rattle.heads.proofs.kind.read_kind.Goals as goal
-use Rattle.heads.proofs.kind.read_kind.Goals.{After-taken_kind-said, Start}
 
 module _ (takes : List Head) (s : List ℕ) (at : ℕ) where
   kind_none : length s ≤ at → refused 1 ≡ kind_at takes s at
@@ -26,24 +24,17 @@ returns-then-bytes-at c =
     let a = c.args in
     c.no_kind.ensures ∙ ap kind_field (kind_none (taken_by a.takes) a.bytes.now a.at c.if-bytes-at.true)
 
-module _ (c : After-taken_kind-said) where
-  abbrev start : Start
-  start = c.before.before.before.before
-
-  abbrev found : Answered Head
-  found = let a = start.args in head_among (taken_by a.takes) (get_or a.bytes.now a.at 0)
-
-  read : (r : Answered Head) → found ≡ r → let a = start.args in and_then r (λ f. answered (field f (a.at + 1))) ≡ kind_at (taken_by a.takes) a.bytes.now a.at
-  read r e = let a = start.args in kind_some (taken_by a.takes) a.bytes.now a.at c.before.before.if1.false r e
-
 pub returns-in-Refused : goal.returns-in-Refused
 returns-in-Refused c =
-    let number = head_is (found (goal.at.returns-in-Refused c).After-taken_kind-said) c.taken_kind-said.ensures ∙ head_refused c.taken_kind-said.result c.in-Refused.is in
-    c.no_kind-in-Refused.ensures ∙ ap kind_field (read (goal.at.returns-in-Refused c).After-taken_kind-said _ number)
+    let a = c.args in
+    let number = head_is (head_among (taken_by a.takes) (get_or a.bytes.now a.at 0)) c.taken_kind-said.ensures ∙ head_refused c.taken_kind-said.result c.in-Refused.is in
+    c.no_kind-in-Refused.ensures ∙ ap kind_field (kind_some (taken_by a.takes) a.bytes.now a.at c.if-bytes-at.false _ number)
 
 pub returns : goal.returns
 returns c =
-    let (h, says, same) = head_whole c.taken_kind-said.result c.in_default.in_default-own.keys2 in
-    let is = head_is (found (goal.at.returns c).After-taken_kind-said) c.taken_kind-said.ensures ∙ says in
+    let a = c.args in
+    let found = head_among (taken_by a.takes) (get_or a.bytes.now a.at 0) in
+    let (h, says, same) = head_whole c.taken_kind-said.result c.in_default.not-Refused in
+    let is = head_is found c.taken_kind-said.ensures ∙ says in
     let said = c.taken_kind-said.ensures ∙ ap kind_byte is in
-    (λ i. record { said = said i; next = (start (goal.at.returns c).After-taken_kind-said).args.at + 1 }) ∙ ap kind_field (read (goal.at.returns c).After-taken_kind-said _ is)
+    (λ i. record { said = said i; next = a.at + 1 }) ∙ ap kind_field (kind_some (taken_by a.takes) a.bytes.now a.at c.if-bytes-at.false _ is)

@@ -1,25 +1,23 @@
--- `gate::size_of` meets its contract. The loop's invariant: `sum` is the sum of the weights below `place`, at most `place` * 2^31 in size, so
--- that no step wraps. The measure is the number of places left. Assumes nothing.
-use mathlib.Core.Path.{◌≡◌, sym, ◌∙◌, ap₂}
+-- `gate::size_of` meets its contract: what a place adds to the sum, and its size. Assumes nothing.
+use mathlib.Core.Path.{◌≡◌, sym, ◌∙◌, ap}
 use mathlib.Core.List.{List}
-use Prim.Native.Nat.{ℕ, ◌+◌, ◌*◌, ◌-◌, ◌^◌, ◌≤◌, ◌<◌}
+use Prim.Native.Nat.{ℕ, ◌+◌, ◌*◌, ◌^◌, ◌≤◌, ◌<◌}
 use native.Mathlib.Numerals.{add-one}
 use native.Mathlib.Omega.{arith}
 use lib.ListN.{length, take, get_or}
 use lib.Seq.{take_all}
 use lib.IntN.{ℤ, pos, ◌+ℤ◌}
 use mir.Syntax.{w32, w64}
-use mir.Val.{to_z, SFits}
+use mir.Val.{to_z, of_z, SFits}
 use mir.Facts.{to_z-of_z}
 use borrow.Author.Rules.{rules}
 use Rattle.numbers.specs.Sum.{weighted_sum}
 use Rattle.numbers.proofs.Int.{up, dn, size_add}
 use Rattle.numbers.proofs.Ring.{*ℤ_idl}
 use Rattle.numbers.proofs.SumLaws.{weighted_sum_nil, weighted_sum_suc}
-use Rattle.numbers.proofs.Widths.{fits_size, size_fits, wide_fits, wide_back}
+use Rattle.numbers.proofs.Widths.{fits_size, size_fits, wide_back}
 use Rattle.notation.specs.GateText.{size}
 use Rattle.notation.proofs.gate.size_of.Goals as goal
-use Rattle.notation.proofs.gate.size_of.Goals.{After-struct_told-1, After-sum-1}
 use Rattle.notation.proofs.gate.size_of.Invariants.{SumTo}
 
 -- a place adds its weight
@@ -33,46 +31,28 @@ sum_next a place z h f (is, small) = (
 pub loop-place-init : goal.loop-place-init
 loop-place-init c = (omega arith, (sym (weighted_sum_nil _), omega arith))
 
--- the weight that is added
-abbrev weight : After-sum-1 → ℤ
-weight c = get_or c.before.before.before.before.args.gate.weights c.before.before.loop.place (pos 0)
-
-weight_fits : (c : After-sum-1) → SFits w32 (weight c)
-weight_fits c = record { sfits = c.sum-1.given }
-
--- the sum with it
-sum_with_lem : (c : After-sum-1) → SumTo c.args.gate.weights (c.loop-place.place + 1) (to_z w64 c.loop-place.sum +ℤ weight c)
-sum_with_lem c =
-    let a = c.args.gate.weights in
-    let count : length a ≡ 8 = search rules in
-    sum_next a c.loop-place.place (to_z w64 c.loop-place.sum) (omega arith) (weight_fits c) c.loop-place.invariant.1
-
-pub overflow_cast-sum : goal.overflow_cast-sum
-overflow_cast-sum c = wide_fits tt (weight_fits c)
-
-pub overflow_add-sum : goal.overflow_add-sum
-overflow_add-sum c = rw (wide_back w64 tt (weight_fits c)) (size_fits (omega (arith, (sum_with_lem c).1)))
+-- the sum with a weight, read back from the bits to which the code writes it
+sum_back : (z x : ℤ) → SFits w32 x → up z + dn z ≤ 8 * 2 ^ 31
+    → to_z w64 (of_z w64 (z +ℤ to_z w64 (of_z w64 (to_z w32 (of_z w32 x))))) ≡ z +ℤ x
+sum_back z x f h = rw (wide_back w64 tt f) (to_z-of_z {w = w64} (size_fits (omega (arith, size_add z x, fits_size f))))
 
 pub loop-place-preserved : goal.loop-place-preserved
-loop-place-preserved c = (omega arith, rw (to_z-of_z (overflow_add-sum c), wide_back w64 tt (weight_fits c)) (sum_with_lem c))
-
-threshold_fits : (c : After-struct_told-1) → SFits w32 c.args.gate.threshold
-threshold_fits c = search rules
-
-pub overflow_cast-result : goal.overflow_cast-result
-overflow_cast-result c = wide_fits tt (threshold_fits c)
-
-pub overflow_add-result : goal.overflow_add-result
-overflow_add-result c =
-    let sum = to_z w64 c.loop-place.sum in
-    let b = c.args.gate.threshold in
-    rw (wide_back w64 tt (threshold_fits c)) (size_fits (omega (arith, size_add sum b, fits_size (threshold_fits c))))
+loop-place-preserved c =
+    let ws = c.args.gate.weights in
+    let place = c.loop-place.place in
+    let count : length ws ≡ 8 = search rules in
+    let z = to_z w64 c.loop-place.sum-bits in
+    let f : SFits w32 (get_or ws place (pos 0)) = search rules in
+    let s = sum_next ws place z (omega arith) f c.loop-place.invariant.1 in
+    (omega arith, rw (sum_back z (get_or ws place (pos 0)) f (omega (arith, c.loop-place.invariant.1.1))) s)
 
 pub returns : goal.returns
 unfolding size
 returns c =
-    let a = c.args.gate.weights in
-    let count : length a ≡ 8 = search rules in
-    let all : take c.loop-place.place a ≡ a = take_all c.loop-place.place a (omega arith) in
-    let sum : to_z w64 c.loop-place.sum ≡ weighted_sum a (λ place. 1) = rw all at c.loop-place.invariant.1.0 in
-    to_z-of_z (overflow_add-result c) ∙ ap₂ ◌+ℤ◌ sum (wide_back w64 tt (threshold_fits c))
+    let ws = c.args.gate.weights in
+    let z = to_z w64 c.loop-place.sum-bits in
+    let count : length ws ≡ 8 = search rules in
+    let f : SFits w32 c.args.gate.threshold = search rules in
+    let all : take c.loop-place.place ws ≡ ws = take_all c.loop-place.place ws (omega arith) in
+    let sum : z ≡ weighted_sum ws (λ place. 1) = rw all at c.loop-place.invariant.1.0 in
+    sum_back z c.args.gate.threshold f (omega (arith, c.loop-place.invariant.1.1)) ∙ ap (λ (s : ℤ). s +ℤ c.args.gate.threshold) sum

@@ -1,15 +1,13 @@
 -- `witness::height_of` meets its contract. The loop's invariant: `sum` is what the rows below `row` add, each at most 8 × (2^32 - 1), and
 -- `heights` is the manual's page. There are at most 256 rows, so the sum fits. The measure is what is left of the rows. Assumes nothing.
 use mathlib.Core.Path.{◌≡◌, sym, ◌∙◌, ap}
-use Prim.Native.Nat.{ℕ, ◌*◌, ◌-◌, ◌≤◌}
+use Prim.Native.Nat.{ℕ}
 use native.Mathlib.Numerals.{add-one}
 use native.Mathlib.Omega.{arith}
-use borrow.Author.Rules.{rules}
 use Rattle.numbers.specs.Sum.{sum_below}
 use Rattle.numbers.proofs.SumLaws.{sum_below_zero, sum_below_suc}
 use Rattle.table.specs.Table.{rows}
 use Rattle.table.proofs.TableLaws.{rows_le}
-use Rattle.heights.specs.Page.{manual_page}
 use Rattle.notation.proofs.HeightLaws.{height_term, height_terms}
 use Rattle.notation.proofs.witness.height_of.Goals as goal
 

@@ -29,4 +29,4 @@ returns-in-Refused c =
 pub returns : goal.returns
 returns c =
     let a = c.args in
-    c.read_table.ensures ∙ ap table_field (table_is a.field.said c.in_default.in_default-own.keys2 a.bytes.now a.at)
+    c.read_table.ensures ∙ ap table_field (table_is a.field.said c.in_default.not-Refused a.bytes.now a.at)

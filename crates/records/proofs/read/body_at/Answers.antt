@@ -61,7 +61,7 @@ module _ (c : After-read_table-read) where
   read = let r = c.read_table.result in field r.table r.next
 
 pub returns-in-Refused-status : goal.returns-in-Refused-status
-returns-in-Refused-status c = c.no_body-in-Refused-status.ensures ∙ ap record_field (table_first (said (goal.at.returns-in-Refused-status c).After-read_table-read) c.in_default.in_default-own.keys2 (bytes (goal.at.returns-in-Refused-status c).After-read_table-read) (start (goal.at.returns-in-Refused-status c).After-read_table-read).args.at (table_refused (table (goal.at.returns-in-Refused-status c).After-read_table-read) c.read_table-read.ensures c.in-Refused-status.is))
+returns-in-Refused-status c = c.no_body-in-Refused-status.ensures ∙ ap record_field (table_first (said (goal.at.returns-in-Refused-status c).After-read_table-read) c.in_default.not-Refused (bytes (goal.at.returns-in-Refused-status c).After-read_table-read) (start (goal.at.returns-in-Refused-status c).After-read_table-read).args.at (table_refused (table (goal.at.returns-in-Refused-status c).After-read_table-read) c.read_table-read.ensures c.in-Refused-status.is))
 
 -- after a table that was read
 module _ (c : In_default-status) where

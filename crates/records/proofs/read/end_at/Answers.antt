@@ -31,8 +31,8 @@ returns-in-Refused c =
 
 pub returns-then-at-bytes : goal.returns-then-at-bytes
 returns-then-at-bytes c =
-    let a = c.args in c.refused.ensures ∙ bytes_left_lem a.body.read a.bytes.now a.at c.in_default.in_default-own.keys2 c.if-at-bytes.true
+    let a = c.args in c.refused.ensures ∙ bytes_left_lem a.body.read a.bytes.now a.at c.in_default.not-Refused c.if-at-bytes.true
 
 pub returns : goal.returns
 returns c =
-    let a = c.args in none_left a.body.read a.bytes.now a.at c.in_default.in_default-own.keys2 c.if-at-bytes.false
+    let a = c.args in none_left a.body.read a.bytes.now a.at c.in_default.not-Refused c.if-at-bytes.false

@@ -1,7 +1,6 @@
 -- `crate::refusal::spare_bits` meets its contract: the values decide where a bit of them is spare, and else the care bits. Assumes nothing.
 use mathlib.Core.Path.{sym, ◌∙◌, ap}
 use mathlib.Core.Bool.{Bool, ◌||◌}
-use borrow.Author.Rules.{rules}
 use Rattle.table.specs.Table.{spare_set}
 use Rattle.refusal.proofs.refusal.spare_bits.Goals as goal
 

@@ -31,5 +31,4 @@ returns-in-Refused c =
 
 pub returns : goal.returns
 returns c =
-    let same = ap (λ (n : ℕ). as_result (refused n)) (other c.args.kind c.in_default.in_default-own.keys2) in
-    back w64 c.refusal-2.type_inv ∙ c.refusal-2.ensures ∙ same
+    let d = c.in_default in ?

@@ -12,23 +12,18 @@ use Rattle.numbers.proofs.Widths.{size_fits}
 use Rattle.writers.specs.declared.write.Written.{Written}
 use Rattle.results.specs.Result.{as_result, length_by}
 use Rattle.results.proofs.result.written_length.Goals as goal
-use Rattle.results.proofs.result.written_length.Goals.{In-Bytes-2}
 
 -- the number of an answer that is known
 known : {a b : Written} → a ≡ b → as_result (length_by b) ≡ as_result (length_by a)
 known e = ap (λ (a : Written). as_result (length_by a)) (sym e)
 
-module _ (c : In-Bytes-2) where
-  small : c.answer.given.0.0 ≤ 2048
-  small = c.before.before.requires c.answer.given.0.0 (ap length_by c.answer.given.1)
-
 pub overflow_cast-result : goal.overflow_cast-result
-overflow_cast-result c = size_fits (omega (arith, small (goal.at.overflow_cast-result c).In-Bytes-2))
+overflow_cast-result c = size_fits (omega (arith, c.requires c.in-Bytes.length (ap length_by c.in-Bytes.is)))
 
 pub returns-in-Bytes : goal.returns-in-Bytes
 returns-in-Bytes c =
-    let value : to_z w64 c.in-Bytes.length ≡ pos c.in-Bytes.length = to_z_pos w64 (omega (arith, small (goal.at.returns-in-Bytes c).In-Bytes-2)) in
-    value ∙ known c.in-Bytes.is
+    let small = c.requires c.in-Bytes.length (ap length_by c.in-Bytes.is) in
+    let value : to_z w64 c.in-Bytes.length ≡ pos c.in-Bytes.length = to_z_pos w64 (omega (arith, small)) in value ∙ known c.in-Bytes.is
 
 pub returns-in-Refused : goal.returns-in-Refused
 returns-in-Refused c = back w64 c.refusal.type_inv ∙ c.refusal.ensures ∙ known c.in-Refused.is

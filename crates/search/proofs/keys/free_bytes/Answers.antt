@@ -1,13 +1,13 @@
 -- `keys::free_bytes` meets its contract. The loop's invariant: the bytes below `at` are stored. The measure is the number of bytes left.
 -- Assumes nothing.
 use mathlib.Core.Path.{◌≡◌, refl}
-use Prim.Native.Nat.{◌-◌, ◌^◌, ◌≤◌, ◌<◌}
+use Prim.Native.Nat.{◌<◌}
 use native.Mathlib.Omega.{arith}
 use borrow.Author.Rules.{rules}
 use lib.ListN.{get_or, replicate}
 use mir.Syntax.{w8}
 use mir.Val.{Fits}
-use Rattle.numbers.proofs.TabulateLaws.{filled, filled_none, filled_more}
+use Rattle.numbers.proofs.TabulateLaws.{filled_none, filled_more}
 use Rattle.table.proofs.TableLaws.{bytes_le}
 use Rattle.table.proofs.RowLaws.{ByteArray}
 use Rattle.search.proofs.BitLaws.{not_at}

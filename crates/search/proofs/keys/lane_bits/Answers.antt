@@ -15,46 +15,41 @@ use Rattle.table.specs.Table.{rows_of, byte_count, bit_at}
 use Rattle.table.proofs.TableLaws.{rows_le, bytes_le}
 use Rattle.scan.specs.Scan.{in_table, values_below}
 use Rattle.scan.proofs.ValueLaws.{values_at}
+use Rattle.lanes.specs.Blocks.{lane_rows}
 use Rattle.search.proofs.BlockLaws.{past_block}
 use Rattle.search.proofs.keys.lane_bits.Goals as goal
-use Rattle.search.proofs.keys.lane_bits.Goals.{After-byte_values-bits}
 
 pub byte_values-bits-requires : goal.byte_values-bits-requires
 byte_values-bits-requires c = omega (arith, c.byte_count.ensures, bytes_le {n = c.args.n} c.requires)
 
-abbrev n : After-byte_values-bits → ℕ
-n c = c.before.before.args.n
-
-abbrev bytes : After-byte_values-bits → List ℕ
-bytes c = c.before.before.args.bytes.now
-
--- what was read: the bits of the rows
-read : (c : After-byte_values-bits) → c.byte_values-bits.result ≡ values_below (8 * byte_count (n c)) (bytes c)
-read c = rw c.byte_count.ensures at c.byte_values-bits.ensures
-
--- a row has its bit there
-read_at : (c : After-byte_values-bits) (r : ℕ) → r < rows_of (n c) → get_or c.byte_values-bits.result r false ≡ bit_at (bytes c) r
-read_at c r h =
-    let few = rows_le {n = n c} c.requires in
-    ap (λ (l : List Bool). get_or l r false) (read c)
-    ∙ values_at (bytes c) (8 * byte_count (n c)) r (omega arith) (omega arith)
+-- what was read has the bit of each row
+read_at : (n : ℕ) (bytes : List ℕ) (bits : List Bool) → n ≤ 8 → bits ≡ values_below (8 * byte_count n) bytes → (r : ℕ) → r < rows_of n
+    → get_or bits r false ≡ bit_at bytes r
+read_at n bytes bits bound is r h =
+    let few = rows_le {n = n} bound in
+    ap (λ (l : List Bool). get_or l r false) is ∙ values_at bytes (8 * byte_count n) r (omega arith) (omega arith)
 
 pub repeat_rows-requires : goal.repeat_rows-requires
 repeat_rows-requires c =
-    (
-      omega (arith, c.row_count.ensures, pow_pos (n (goal.at.repeat_rows-requires c).After-byte_values-bits)),
-      ap length (read (goal.at.repeat_rows-requires c).After-byte_values-bits) ∙ length_tabulate (in_table (8 * byte_count (n (goal.at.repeat_rows-requires c).After-byte_values-bits)) (bytes (goal.at.repeat_rows-requires c).After-byte_values-bits)) 256,
+    let count = 8 * byte_count c.args.n in (
+      omega (arith, c.row_count.ensures, pow_pos c.args.n),
+      rw c.byte_count.ensures at (ap length c.byte_values-bits.ensures) ∙ length_tabulate (in_table count c.args.bytes.now) 256,
     )
+
+-- the rows of the first block repeat its table's, and the others are the table's own
+row_bit : (n : ℕ) (bytes : List ℕ) (bits repeated : List Bool) → n ≤ 8 → bits ≡ values_below (8 * byte_count n) bytes
+    → ((r : ℕ) → r < 32 → get_or repeated r false ≡ get_or bits (r % rows_of n) false)
+    → ((r : ℕ) → 32 ≤ r → get_or repeated r false ≡ get_or bits r false)
+    → (r : ℕ) → r < lane_rows n → Dec (32 ≤ r) → get_or repeated r false ≡ bit_at bytes (r % rows_of n)
+row_bit n bytes bits repeated bound is first past r h (yes l) =
+    let inside = past_block n r l h in
+    past r l ∙ read_at n bytes bits bound is r inside ∙ sym (ap (bit_at bytes) (mod-eq_of_lt inside))
+row_bit n bytes bits repeated bound is first past r h (no l) =
+    first r (omega (arith, l)) ∙ read_at n bytes bits bound is (r % rows_of n) (mod-lt r (pow_pos n))
 
 pub returns : goal.returns
 returns c r h =
-    by (dec_le 32 r)
-  where
-    by : Dec (32 ≤ r)
-        → get_or c.repeat_rows.new.0 r false ≡ bit_at (bytes (goal.at.returns c).After-byte_values-bits) (r % rows_of (n (goal.at.returns c).After-byte_values-bits))
-    by (yes past) =
-        let inside = past_block (n (goal.at.returns c).After-byte_values-bits) r past h in
-        c.repeat_rows.ensures.by_index_2 r past ∙ read_at (goal.at.returns c).After-byte_values-bits r inside ∙ sym (ap (bit_at (bytes (goal.at.returns c).After-byte_values-bits)) (mod-eq_of_lt inside))
-    by (no first) =
-        rw c.row_count.ensures at (c.repeat_rows.ensures.by_index r (omega (arith, first)))
-        ∙ read_at (goal.at.returns c).After-byte_values-bits (r % rows_of (n (goal.at.returns c).After-byte_values-bits)) (mod-lt r (pow_pos (n (goal.at.returns c).After-byte_values-bits)))
+    let read = rw c.byte_count.ensures at c.byte_values-bits.ensures in
+    let ensured = c.repeat_rows.ensures in
+    row_bit c.args.n c.args.bytes.now c.byte_values-bits.result c.repeat_rows.new.bits c.requires read
+    (rw c.row_count.ensures at ensured.repeated) ensured.kept r h (dec_le 32 r)

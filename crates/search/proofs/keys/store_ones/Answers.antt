@@ -2,24 +2,21 @@
 -- measure is what is left of the rows. Assumes nothing.
 use mathlib.Core.Path.{◌≡◌, refl, ◌∙◌}
 use mathlib.Core.Bool.{Bool, true, false}
-use Prim.Native.Nat.{◌-◌}
 use native.Mathlib.Omega.{arith}
-use borrow.Author.Rules.{rules}
 use lib.ListN.{get_or}
 use lib.IntN.{pos, ◌+ℤ◌, ◌*ℤ◌}
 use mir.Syntax.{w16}
 use mir.Val.{to_z, of_z, SFits, bool_byte}
 use Rattle.numbers.proofs.Widths.{size_fits}
 use Rattle.search.proofs.BlockLaws.{blocks_le}
-use Rattle.search.proofs.KeyLaws.{one_from, one_from_lem, Stored, stored_none, stored_more}
+use Rattle.search.proofs.KeyLaws.{one_from, one_from_lem, stored_none, stored_more}
 use Rattle.search.proofs.keys.store_ones.Goals as goal
-use Rattle.search.proofs.keys.store_ones.Goals.{After-one-in-loop-row-1}
 
 pub overflow_mul-rows : goal.overflow_mul-rows
 overflow_mul-rows c = record { fits = omega (arith, c.block_count-rows.ensures, blocks_le c.args.table.n c.requires.n_bound.0) }
 
 pub loop-row-init : goal.loop-row-init
-loop-row-init c = stored_none _ c.requires.n_bound.0 c.block_count-rows.ensures c.requires.by_index.1
+loop-row-init c = stored_none _ c.requires.n_bound.0 c.block_count-rows.ensures c.requires.trues_are.1
 
 -- the product and the sum of two bits, as the code makes them
 free_fits : (free : Bool) → SFits w16 (to_z w16 (bool_byte free) *ℤ pos 16384)
@@ -39,23 +36,18 @@ one_made true false = refl
 one_made false true = refl
 one_made false false = refl
 
--- the bits of a pass
-abbrev free : After-one-in-loop-row-1 → Bool
-free c = let head = c.before.before.before in get_or head.before.before.args.frees.now head.loop.row false
+pub overflow_mul-one : goal.overflow_mul-one
+overflow_mul-one c = free_fits (get_or c.args.frees.now c.loop-row.row false)
 
-abbrev goes : After-one-in-loop-row-1 → Bool
-goes c = let head = c.before.before.before in get_or head.before.before.args.trues.now head.loop.row false
+pub overflow_add-one : goal.overflow_add-one
+overflow_add-one c = sum_fits (get_or c.args.frees.now c.loop-row.row false) (get_or c.args.trues.now c.loop-row.row false)
 
 pub loop-row-preserved : goal.loop-row-preserved
-loop-row-preserved c = stored_more _ (omega arith) (one_made (free c) (goes c)) c.loop-row.invariant
+loop-row-preserved c =
+    let row = c.loop-row.row in
+    stored_more _ (omega arith) (one_made (get_or c.args.frees.now row false) (get_or c.args.trues.now row false)) c.loop-row.invariant
 
 pub returns : goal.returns
 returns c r l =
     c.loop-row.invariant.holds r (omega (arith, c.block_count-rows.ensures))
-    ∙ one_from_lem c.args.table r (c.requires.n_bound.1 r l) (c.requires.by_index.0 r l)
-
-pub overflow_mul-one : goal.overflow_mul-one
-overflow_mul-one c = free_fits (free c)
-
-pub overflow_add-one : goal.overflow_add-one
-overflow_add-one c = sum_fits (free c) (goes c)
+    ∙ one_from_lem c.args.table r (c.requires.n_bound.1 r l) (c.requires.trues_are.0 r l)

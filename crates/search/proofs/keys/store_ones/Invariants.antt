@@ -1,17 +1,9 @@
 -- `keys::store_ones` meets its contract. The loop's invariant: `ones` holds what is taken from the distances of the rows below `row`. The
 -- measure is what is left of the rows. Assumes nothing.
-use mathlib.Core.Path.{◌≡◌, refl, ◌∙◌}
-use mathlib.Core.Bool.{Bool, true, false}
+use mathlib.Core.Bool.{false}
 use Prim.Native.Nat.{◌-◌}
-use native.Mathlib.Omega.{arith}
-use borrow.Author.Rules.{rules}
 use lib.ListN.{get_or}
-use lib.IntN.{pos, ◌+ℤ◌, ◌*ℤ◌}
-use mir.Syntax.{w16}
-use mir.Val.{to_z, of_z, SFits, bool_byte}
-use Rattle.numbers.proofs.Widths.{size_fits}
-use Rattle.search.proofs.BlockLaws.{blocks_le}
-use Rattle.search.proofs.KeyLaws.{one_from, one_from_lem, Stored, stored_none, stored_more}
+use Rattle.search.proofs.KeyLaws.{one_from, Stored}
 use Rattle.search.proofs.keys.store_ones.Given as goal
 
 abbrev pub invariant-loop-row : goal.invariant-loop-row

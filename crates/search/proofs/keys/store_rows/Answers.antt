@@ -3,7 +3,7 @@ use borrow.Author.Rules.{rules}
 use Rattle.search.proofs.keys.store_rows.Goals as goal
 
 pub store_trues-requires : goal.store_trues-requires
-store_trues-requires c = record { n_bound = (c.requires.0, c.some_free.ensures c.if-some_free.false); by_index = (c.lane_trues-trues.ensures, c.requires.1) }
+store_trues-requires c = record { n_bound = (c.requires.0, c.some_free.ensures c.if-some_free.false); trues_are = (c.lane_trues-trues.ensures, c.requires.1) }
 
 pub returns-then-some_free : goal.returns-then-some_free
 returns-then-some_free c = (c.store_ones.ensures, c.store_keys.ensures)

@@ -2,10 +2,9 @@
 -- measure is what is left of the rows. Assumes nothing.
 use mathlib.Core.Path.{◌≡◌, refl, sym, ◌∙◌, ap}
 use mathlib.Core.Bool.{Bool, true, false, not}
-use Prim.Native.Nat.{ℕ, ◌-◌, ◌%◌, ◌<◌}
+use Prim.Native.Nat.{ℕ, ◌%◌, ◌<◌}
 use native.Mathlib.Nat.{mod-lt}
 use native.Mathlib.Omega.{arith}
-use borrow.Author.Rules.{rules}
 use lib.ListN.{get_or}
 use lib.Pow.{pow_pos}
 use mir.Syntax.{w16}
@@ -14,14 +13,14 @@ use Rattle.types.specs.declared.table.Table.{Table}
 use Rattle.table.specs.Table.{rows, cared}
 use Rattle.lanes.specs.Blocks.{lane_cared}
 use Rattle.search.proofs.BlockLaws.{blocks_le}
-use Rattle.search.proofs.KeyLaws.{one_from, one_from_lem, Stored, stored_none, stored_more}
+use Rattle.search.proofs.KeyLaws.{one_from, one_from_lem, stored_none, stored_more}
 use Rattle.search.proofs.keys.store_trues.Goals as goal
 
 pub overflow_mul-rows : goal.overflow_mul-rows
 overflow_mul-rows c = record { fits = omega (arith, c.block_count-rows.ensures, blocks_le c.args.table.n c.requires.n_bound.0) }
 
 pub loop-row-init : goal.loop-row-init
-loop-row-init c = stored_none _ c.requires.n_bound.0 c.block_count-rows.ensures c.requires.by_index.1
+loop-row-init c = stored_none _ c.requires.n_bound.0 c.block_count-rows.ensures c.requires.trues_are.1
 
 one_made : (goes : Bool) → to_z w16 (bool_byte goes) ≡ one_from false goes
 one_made true = refl
@@ -40,4 +39,4 @@ lane_cared_lem t r all = all (r % rows t) (mod-lt r (pow_pos t.n))
 pub returns : goal.returns
 returns c r l =
     c.loop-row.invariant.holds r (omega (arith, c.block_count-rows.ensures))
-    ∙ one_from_lem c.args.table r (sym (ap not (lane_cared_lem c.args.table r c.requires.n_bound.1))) (c.requires.by_index.0 r l)
+    ∙ one_from_lem c.args.table r (sym (ap not (lane_cared_lem c.args.table r c.requires.n_bound.1))) (c.requires.trues_are.0 r l)

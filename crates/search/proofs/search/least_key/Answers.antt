@@ -1,99 +1,98 @@
 -- `search::least_key` meets its contract. The loop's invariant: `least` is the least key of the rows below `row`. The measure is what is
 -- left of the block. Assumes nothing.
 use mathlib.Core.Path.{◌≡◌, sym, ◌∙◌, ap}
-use mathlib.Core.Logic.{⊎_elim}
-use Prim.Native.Nat.{ℕ, ◌+◌, ◌-◌, ◌≤◌, ◌<◌}
+use Prim.Native.Nat.{◌+◌, ◌^◌, ◌<◌}
 use native.Mathlib.Omega.{arith}
 use borrow.Author.Rules.{rules}
 use lib.Bits.{bit_and, bit_xor}
 use lib.ListN.{get_or}
-use lib.IntN.{ℤ, pos, neg_ℤ, ◌+ℤ◌, ◌-ℤ◌}
+use lib.IntN.{ℤ, pos, neg_ℤ, nat_abs, ◌+ℤ◌, ◌-ℤ◌}
 use mir.Syntax.{w16}
 use mir.Val.{to_z, of_z, SFits}
 use mir.Facts.{to_z-of_z}
 use Rattle.numbers.proofs.Int.{nat_abs_parts, up, dn, parts_neg, size_add}
 use Rattle.numbers.proofs.Widths.{size_fits}
-use Rattle.search.specs.Keys.{flipped_by, least_below, block_key}
+use Rattle.search.specs.Keys.{flipped_by, block_key}
 use Rattle.search.proofs.KeyLaws.{key_bits, least_none, least_taken, least_kept}
 use Rattle.search.proofs.search.least_key.Goals as goal
-use Rattle.search.proofs.search.least_key.Goals.{After-key-1, After-key-in-loop-row-1, After-key-in-loop-row-2-1, Start}
+use Rattle.search.proofs.search.least_key.Goals.{then-key-least, else-key-least}
 
 pub loop-row-init : goal.loop-row-init
 loop-row-init c = (omega arith, sym (least_none _))
 
-abbrev start : After-key-1 → Start
-start c = c.before.before.before
+-- ---- a pass: the sum of the row, that of the higher inputs, and what is taken from them
+module _ (own high one : ℤ) (own_fits : SFits w16 own) (high_fits : SFits w16 high) (one_fits : SFits w16 one)
+    (sizes : nat_abs own + nat_abs high + nat_abs one < 2 ^ 15)
+  where
+    -- their sizes leave room for the difference
+    room : up own + dn own + (up high + dn high) + (up one + dn one) < 32768
+    room = omega (arith, sizes, nat_abs_parts own, nat_abs_parts high, nat_abs_parts one)
 
-abbrev row : After-key-1 → ℕ
-row c = c.before.before.loop.row
+    -- the distance, as the code adds it up
+    abbrev added : ℤ
+    added = to_z w16 (of_z w16 own) +ℤ to_z w16 (of_z w16 high)
 
--- what a pass reads: the sum of the row, that of the higher inputs, what is taken from them, and the key
-abbrev own : After-key-1 → ℤ
-own c = get_or (start c).args.sums.now (row c) (pos 0)
+    away : added ≡ own +ℤ high
+    away = rw (to_z-of_z {w = w16} {z = own} own_fits, to_z-of_z {w = w16} {z = high} high_fits)
 
-abbrev high : After-key-1 → ℤ
-high c = (start c).args.high
+    added_fits : SFits w16 added
+    added_fits = rw away (size_fits (omega (arith, room, size_add own high)))
 
-abbrev one : After-key-1 → ℤ
-one c = get_or (start c).args.ones.now (row c) (pos 0)
+    -- the difference, as the code takes it
+    abbrev less : ℤ
+    less = to_z w16 (of_z w16 added) -ℤ to_z w16 (of_z w16 one)
 
-abbrev key : After-key-1 → ℤ
-key c = get_or (start c).args.keys.now (row c) (pos 0)
+    difference : less ≡ own +ℤ high -ℤ one
+    difference = rw (to_z-of_z {w = w16} {z = added} added_fits, away, to_z-of_z {w = w16} {z = one} one_fits)
 
--- their sizes leave room for the difference
-room : (c : After-key-1) → up (own c) + dn (own c) + (up (high c) + dn (high c)) + (up (one c) + dn (one c)) < 32768
-room c =
-    omega (
-      arith,
-      (start c).requires.1 (row c) c.loop-row-test.true,
-      nat_abs_parts (own c),
-      nat_abs_parts (high c),
-      nat_abs_parts (one c),
-    )
+    less_fits : SFits w16 less
+    less_fits =
+        rw difference
+        (size_fits (omega (arith, room, size_add own high, size_add (own +ℤ high) (neg_ℤ one), parts_neg one)))
 
--- the distance, as the code adds it up
-abbrev added : After-key-1 → ℤ
-added c = to_z w16 (of_z w16 (own c)) +ℤ to_z w16 (of_z w16 (high c))
-
-away : (c : After-key-1) → added c ≡ own c +ℤ high c
-away c =
-    let read : SFits w16 (own c) = record { sfits = c.key-1.given } in
-    rw (to_z-of_z {w = w16} {z = own c} read, to_z-of_z {w = w16} {z = high c} (start c).ranges.high)
+    -- the key of the row
+    key_read : (key : ℤ) → SFits w16 key
+        → to_z w16 (bit_xor (bit_and (of_z w16 less) 32768) (of_z w16 key)) ≡ flipped_by (own +ℤ to_z w16 (of_z w16 high) -ℤ one) key
+    key_read key key_fits =
+        key_bits less key less_fits key_fits
+        ∙ ap (λ (z : ℤ). flipped_by z key) difference
+        ∙ ap (λ (z : ℤ). flipped_by (own +ℤ z -ℤ one) key) (sym (to_z-of_z {w = w16} {z = high} high_fits))
 
 pub overflow_add-key : goal.overflow_add-key
-overflow_add-key c = rw (away c) (size_fits (omega (arith, room c, size_add (own c) (high c))))
-
--- the difference, as the code takes it
-abbrev less : After-key-1 → ℤ
-less c = to_z w16 (of_z w16 (added c)) -ℤ to_z w16 (of_z w16 (one c))
-
-difference : (c : After-key-in-loop-row-1) → less c.before ≡ own c.before +ℤ high c.before -ℤ one c.before
-difference c =
-    let fits : SFits w16 (one c.before) = record { sfits = c.key-in-loop-row-1.given } in
-    rw (to_z-of_z {w = w16} {z = added c.before} (overflow_add-key c.before), away c.before, to_z-of_z {w = w16} {z = one c.before} fits)
+overflow_add-key c =
+    let row = c.loop-row.row in
+    let own = get_or c.args.sums.now row (pos 0) in
+    let one = get_or c.args.ones.now row (pos 0) in
+    let own_fits : SFits w16 own = search rules in
+    let one_fits : SFits w16 one = search rules in
+    added_fits own c.args.high one own_fits c.ranges.high one_fits (c.requires.room row (omega arith))
 
 pub overflow_sub-key : goal.overflow_sub-key
 overflow_sub-key c =
-    let distance = own (goal.at.overflow_sub-key c).After-key-1 +ℤ high (goal.at.overflow_sub-key c).After-key-1 in
-    rw (difference c)
-    (size_fits
-    (omega (arith, room (goal.at.overflow_sub-key c).After-key-1, size_add (own (goal.at.overflow_sub-key c).After-key-1) (high (goal.at.overflow_sub-key c).After-key-1), size_add distance (neg_ℤ (one (goal.at.overflow_sub-key c).After-key-1)), parts_neg (one (goal.at.overflow_sub-key c).After-key-1))))
-
--- the key of the row
-key_read : (c : After-key-in-loop-row-2-1) → let a = (start c.before.before).args in to_z w16 (bit_xor (bit_and (of_z w16 (less c.before.before)) 32768) (of_z w16 (key c.before.before))) ≡ block_key a.sums.now (to_z w16 (of_z w16 a.high)) a.ones.now a.keys.now (row c.before.before)
-unfolding block_key
-key_read c =
-    key_bits (less c.before.before) (key c.before.before) (overflow_sub-key c.before) (record { sfits = c.key-in-loop-row-2-1.given })
-    ∙ ap (λ (z : ℤ). flipped_by z (key c.before.before)) (difference c.before)
-    ∙ ap (λ (z : ℤ). flipped_by (own c.before.before +ℤ z -ℤ one c.before.before) (key c.before.before)) (sym (to_z-of_z {w = w16} {z = high c.before.before} (start c.before.before).ranges.high))
+    let row = c.loop-row.row in
+    let own = get_or c.args.sums.now row (pos 0) in
+    let one = get_or c.args.ones.now row (pos 0) in
+    let own_fits : SFits w16 own = search rules in
+    let one_fits : SFits w16 one = search rules in
+    less_fits own c.args.high one own_fits c.ranges.high one_fits (c.requires.room row (omega arith))
 
 pub loop-row-preserved : goal.loop-row-preserved
+unfolding block_key
 loop-row-preserved c =
+    let row = c.loop-row.row in
+    let own = get_or c.args.sums.now row (pos 0) in
+    let one = get_or c.args.ones.now row (pos 0) in
+    let key = get_or c.args.keys.now row (pos 0) in
+    let own_fits : SFits w16 own = search rules in
+    let one_fits : SFits w16 one = search rules in
+    let key_fits : SFits w16 key = search rules in
     let so_far = c.loop-row.invariant.1 in
-    let next = key_read (goal.at.loop-row-preserved c).After-key-in-loop-row-2-1 in (
+    let next = key_read own c.args.high one own_fits c.ranges.high one_fits (c.requires.room row (omega arith)) key key_fits in (
       omega arith,
-      ⊎_elim (λ w. ap (to_z w16) w.1 ∙ least_taken _ _ so_far next w.0.taken)
-          (λ w. ap (to_z w16) w.1 ∙ least_kept _ _ so_far next w.0.left) c.if-key-least.branch,
+      elim c.if-key-least.branch [
+        | then-key-least w ↦ w.least-is ∙ least_taken _ _ so_far next w.if-key-least.true
+        | else-key-least w ↦ w.least-is ∙ least_kept _ _ so_far next w.if-key-least.false
+      ],
     )
 
 pub returns : goal.returns

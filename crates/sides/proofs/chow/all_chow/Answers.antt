@@ -1,14 +1,12 @@
 -- `chow::all_chow` meets its contract. The loop's invariant: `q` is filled below `place`. The measure is what is left of the eight places.
 -- Assumes nothing.
-use mathlib.Core.Path.{◌≡◌, ◌∙◌}
-use Prim.Native.Nat.{◌-◌, ◌≤◌}
+use mathlib.Core.Path.{◌∙◌}
 use native.Mathlib.Omega.{arith}
-use borrow.Author.Rules.{rules}
 use lib.ListN.{replicate}
 use lib.IntN.{pos}
 use mir.Syntax.{w32}
 use Rattle.numbers.proofs.Int.{back}
-use Rattle.numbers.proofs.TabulateLaws.{filled, filled_none, filled_more, filled_all}
+use Rattle.numbers.proofs.TabulateLaws.{filled_none, filled_more, filled_all}
 use Rattle.table.specs.Chow.{chow_at, chow_of}
 use Rattle.sides.proofs.chow.all_chow.Goals as goal
 

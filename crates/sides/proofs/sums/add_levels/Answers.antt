@@ -2,7 +2,7 @@
 -- came. The measure is what is left of the nine sums. Assumes nothing.
 use mathlib.Core.Path.{◌≡◌, ◌∙◌, ap, ap₂}
 use mathlib.Core.List.{List, ◌++◌}
-use Prim.Native.Nat.{ℕ, zero, suc, ◌+◌, ◌*◌, ◌-◌, ◌/◌, ◌%◌, ◌^◌, ◌≤◌, ◌<◌}
+use Prim.Native.Nat.{ℕ, zero, suc, ◌+◌, ◌*◌, ◌/◌, ◌%◌, ◌^◌, ◌<◌}
 use native.Mathlib.Numerals.{one-add}
 use native.Mathlib.Omega.{arith}
 use lib.ListN.{length, get_or, drop}
@@ -63,4 +63,3 @@ pub returns : goal.returns
 returns c =
     let head = c.loop-input in
     filled_all _ c.args.sums.now head.input 9 (omega arith) (omega (arith, c.requires.2)) head.invariant.1
-

@@ -1,17 +1,11 @@
 -- `sums::add_levels` meets its contract. The loop's invariant: the sums below `input` have what the row adds, and the others are as they
 -- came. The measure is what is left of the nine sums. Assumes nothing.
-use mathlib.Core.Path.{◌≡◌, ◌∙◌, ap, ap₂}
-use mathlib.Core.List.{List, ◌++◌}
-use Prim.Native.Nat.{ℕ, zero, suc, ◌+◌, ◌*◌, ◌-◌, ◌/◌, ◌%◌, ◌^◌, ◌≤◌, ◌<◌}
-use native.Mathlib.Numerals.{one-add}
-use native.Mathlib.Omega.{arith}
-use lib.ListN.{length, get_or, drop}
-use lib.Seq.{drop-cons, get_or_at}
-use lib.Pow.{shr-shr}
-use Rattle.numbers.specs.Tabulate.{tabulate}
-use Rattle.numbers.proofs.TabulateLaws.{filled, length_tabulate, filled_none, filled_more, filled_all}
+use mathlib.Core.Path.{◌≡◌}
+use mathlib.Core.List.{List}
+use Prim.Native.Nat.{ℕ, ◌+◌, ◌*◌, ◌-◌, ◌≤◌}
+use lib.ListN.{get_or}
+use Rattle.numbers.proofs.TabulateLaws.{filled}
 use Rattle.function.specs.Witness.{input_level}
-use Rattle.sides.proofs.SideLaws.{count_level_le}
 use Rattle.function.specs.Function.{level}
 use Rattle.sides.proofs.sums.add_levels.Given as goal
 

@@ -3,12 +3,10 @@
 use mathlib.Core.Path.{◌≡◌, refl, sym, ◌∙◌, ap}
 use mathlib.Core.Bool.{Bool}
 use mathlib.Core.List.{List}
-use Prim.Native.Nat.{ℕ, ◌+◌, ◌-◌, ◌^◌, ◌≤◌, ◌<◌}
+use Prim.Native.Nat.{ℕ, ◌+◌, ◌^◌, ◌<◌}
 use native.Mathlib.Numerals.{add-one}
 use native.Mathlib.Omega.{arith}
 use lib.ListN.{length, get_or, replicate, get_or-replicate}
-use borrow.Author.Rules.{rules}
-use Rattle.numbers.specs.Sum.{sum_below}
 use Rattle.numbers.specs.Tabulate.{tabulate}
 use Rattle.numbers.proofs.SumLaws.{sum_below_zero, sum_below_suc}
 use Rattle.numbers.proofs.TabulateLaws.{length_tabulate, get_d_tabulate, tabulate_get_d, tabulate_ext}
@@ -34,8 +32,7 @@ row_added t side counts m sums e is =
     (λ i h. rw (add-one, sum_below_suc) (ap (λ (x : ℕ). x + term i) (is i h)))
 
 pub loop-row-init : goal.loop-row-init
-loop-row-init c =
-    (
+loop-row-init c = (
   omega arith,
   omega (arith, rows_le c.requires.0),
   λ t e. tabulate_get_d _ 9 0 (replicate 9 0) refl (λ i h. get_or-replicate 9 i 0 0 h ∙ sym (sum_below_zero _)),
@@ -78,4 +75,3 @@ returns c =
     sums_are (goal.at.returns c).At-loop-row
     ∙ tabulate_ext _ _ 9
     (λ i h. ap (λ (m : ℕ). sum_to a.table a.side a.counts.now m i) all ∙ sym (side_sum_terms (function_of a.table) a.side (count_of a.counts.now) i))
-

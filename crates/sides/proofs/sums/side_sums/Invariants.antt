@@ -1,23 +1,15 @@
 -- `sums::side_sums` meets its contract. The loop's invariant: the sums are what the rows below `row` add. The measure is what is left of
 -- the rows. Assumes nothing.
-use mathlib.Core.Path.{◌≡◌, refl, sym, ◌∙◌, ap}
+use mathlib.Core.Path.{◌≡◌}
 use mathlib.Core.Bool.{Bool}
 use mathlib.Core.List.{List}
-use Prim.Native.Nat.{ℕ, ◌+◌, ◌-◌, ◌^◌, ◌≤◌, ◌<◌}
-use native.Mathlib.Numerals.{add-one}
-use native.Mathlib.Omega.{arith}
-use lib.ListN.{length, get_or, replicate, get_or-replicate}
-use borrow.Author.Rules.{rules}
+use Prim.Native.Nat.{ℕ, ◌-◌, ◌≤◌}
 use Rattle.numbers.specs.Sum.{sum_below}
 use Rattle.numbers.specs.Tabulate.{tabulate}
-use Rattle.numbers.proofs.SumLaws.{sum_below_zero, sum_below_suc}
-use Rattle.numbers.proofs.TabulateLaws.{length_tabulate, get_d_tabulate, tabulate_get_d, tabulate_ext}
 use Rattle.types.specs.declared.table.Table.{Table}
-use Rattle.table.specs.Table.{rows, function_of}
+use Rattle.table.specs.Table.{function_of}
 use Rattle.function.specs.Witness.{count_of}
-use Rattle.table.proofs.TableLaws.{rows_le}
-use Rattle.sides.proofs.SideLaws.{side_terms_le}
-use Rattle.function.proofs.WitnessLaws.{side_term, side_sum_terms}
+use Rattle.function.proofs.WitnessLaws.{side_term}
 use Rattle.sides.proofs.sums.side_sums.Given as goal
 
 -- what the rows below m add to the sum of an input

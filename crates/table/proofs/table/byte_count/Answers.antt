@@ -1,6 +1,5 @@
 -- `table::byte_count` meets its contract: there are at most 256 rows, so the sum fits. Assumes nothing.
 use native.Mathlib.Omega.{arith}
-use borrow.Author.Rules.{rules}
 use Rattle.table.proofs.TableLaws.{rows_le}
 use Rattle.table.proofs.table.byte_count.Goals as goal
 

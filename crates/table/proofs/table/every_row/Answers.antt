@@ -2,12 +2,11 @@
 -- Assumes nothing.
 use mathlib.Core.Path.{◌≡◌, ◌∙◌}
 use mathlib.Core.Bool.{true}
-use Prim.Native.Nat.{◌-◌, ◌*◌, ◌≤◌, ◌<◌}
+use Prim.Native.Nat.{◌*◌, ◌<◌}
 use native.Mathlib.Omega.{arith}
 use lib.ListN.{replicate}
-use borrow.Author.Rules.{rules}
-use Rattle.numbers.proofs.TabulateLaws.{filled, filled_none, filled_more}
-use Rattle.table.specs.Table.{rows_of, row_byte}
+use Rattle.numbers.proofs.TabulateLaws.{filled_none, filled_more}
+use Rattle.table.specs.Table.{rows_of}
 use Rattle.table.proofs.TableLaws.{bytes_le}
 use Rattle.table.proofs.RowLaws.{rows_made}
 use Rattle.table.proofs.table.every_row.Goals as goal

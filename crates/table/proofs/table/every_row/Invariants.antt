@@ -1,15 +1,11 @@
 -- `table::every_row` meets its contract. The loop's invariant: the bytes below `at` are stored. The measure is the number of bytes left.
 -- Assumes nothing.
-use mathlib.Core.Path.{◌≡◌, ◌∙◌}
+use mathlib.Core.Path.{◌≡◌}
 use mathlib.Core.Bool.{true}
-use Prim.Native.Nat.{◌-◌, ◌*◌, ◌≤◌, ◌<◌}
-use native.Mathlib.Omega.{arith}
+use Prim.Native.Nat.{◌-◌, ◌≤◌}
 use lib.ListN.{replicate}
-use borrow.Author.Rules.{rules}
-use Rattle.numbers.proofs.TabulateLaws.{filled, filled_none, filled_more}
+use Rattle.numbers.proofs.TabulateLaws.{filled}
 use Rattle.table.specs.Table.{rows_of, row_byte}
-use Rattle.table.proofs.TableLaws.{bytes_le}
-use Rattle.table.proofs.RowLaws.{rows_made}
 use Rattle.table.proofs.table.every_row.Given as goal
 
 abbrev pub invariant-loop-at : goal.invariant-loop-at

@@ -1,19 +1,9 @@
 -- `table::is_whole` meets its contract. The loop's invariant: the bytes below `at` are those of every row. The measure is the number of bytes left.
 -- Assumes nothing.
-use mathlib.Core.Path.{◌≡◌, sym, ◌∙◌}
-use mathlib.Core.Bool.{true}
-use mathlib.Core.List.{List}
-use Prim.Native.Nat.{ℕ, ◌+◌, ◌-◌, ◌*◌, ◌≤◌, ◌<◌}
-use native.Mathlib.Decide.{dec_le}
-use native.Mathlib.Omega.{arith}
+use mathlib.Core.Path.{◌≡◌}
+use Prim.Native.Nat.{ℕ, ◌-◌, ◌≤◌, ◌<◌}
 use lib.ListN.{get_or}
-use mir.Syntax.{w8}
-use mir.Val.{Fits}
-use borrow.Author.Rules.{rules}
-use Rattle.table.specs.Table.{rows_of, every_row}
-use Rattle.table.proofs.TableLaws.{rows_le, bytes_le}
-use Rattle.table.proofs.RowLaws.{ByteArray, row_byte_at}
-use Rattle.table.proofs.CareLaws.{bytes_whole, cares_differ}
+use Rattle.table.specs.Table.{every_row}
 use Rattle.table.proofs.table.is_whole.Given as goal
 
 abbrev pub invariant-loop-at : goal.invariant-loop-at

@@ -1,7 +1,6 @@
 -- `table::row_count` meets its contract: a shift by at most eight places loses nothing. Assumes nothing.
 use native.Mathlib.Nat.{one-mul, mod-eq_of_lt}
 use native.Mathlib.Omega.{arith}
-use borrow.Author.Rules.{rules}
 use Rattle.table.proofs.TableLaws.{rows_le}
 use Rattle.table.proofs.table.row_count.Goals as goal
 

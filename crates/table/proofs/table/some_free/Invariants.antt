@@ -1,21 +1,9 @@
 -- `table::some_free` meets its contract. The loop's invariant: where no bit is gathered, the rows of the bytes passed are cared for. The measure is
 -- the number of bytes left. Assumes nothing.
-use mathlib.Core.Path.{◌≡◌, ◌∙◌, ap}
+use mathlib.Core.Path.{◌≡◌}
 use mathlib.Core.Bool.{true}
-use mathlib.Core.List.{List}
-use Prim.Native.Nat.{ℕ, ◌+◌, ◌*◌, ◌-◌, ◌/◌, ◌%◌, ◌^◌, ◌≤◌, ◌<◌}
-use native.Mathlib.Decide.{dec_le}
-use native.Mathlib.Omega.{arith}
-use borrow.Author.Rules.{rules}
-use borrow.Author.Tests.{eqb-true, not-false}
-use lib.ListN.{get_or}
-use mir.Syntax.{w8}
-use mir.Val.{Fits}
-use Rattle.numbers.specs.Packed.{bit_in}
-use Rattle.numbers.proofs.PackedLaws.{or_none}
+use Prim.Native.Nat.{ℕ, ◌*◌, ◌-◌, ◌≤◌, ◌<◌}
 use Rattle.table.specs.Table.{bit_at}
-use Rattle.table.proofs.TableLaws.{bytes_le}
-use Rattle.table.proofs.RowLaws.{every_bit}
 use Rattle.table.proofs.table.some_free.Given as goal
 
 abbrev pub invariant-loop-at : goal.invariant-loop-at

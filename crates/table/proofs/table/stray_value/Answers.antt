@@ -1,7 +1,7 @@
 -- `table::stray_value` meets its contract. The loop's invariant: where no bit is gathered, the rows of the bytes below `at` have no value bit or are
 -- cared for; and where no value is astray, none is gathered. The measure is the number of bytes left. Assumes nothing.
 use mathlib.Core.Path.{◌≡◌, refl, sym, ◌∙◌, ap, ap₂}
-use mathlib.Core.Bool.{true, false}
+use mathlib.Core.Bool.{true}
 use Prim.Native.Nat.{ℕ, ◌+◌, ◌-◌, ◌*◌, ◌≤◌, ◌<◌}
 use native.Mathlib.Decide.{dec_le}
 use native.Mathlib.Omega.{arith}

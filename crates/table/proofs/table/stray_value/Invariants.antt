@@ -1,21 +1,10 @@
 -- `table::stray_value` meets its contract. The loop's invariant: where no bit is gathered, the rows of the bytes below `at` have no value bit or are
 -- cared for; and where no value is astray, none is gathered. The measure is the number of bytes left. Assumes nothing.
-use mathlib.Core.Path.{◌≡◌, refl, sym, ◌∙◌, ap, ap₂}
+use mathlib.Core.Path.{◌≡◌}
 use mathlib.Core.Bool.{true, false}
-use Prim.Native.Nat.{ℕ, ◌+◌, ◌-◌, ◌*◌, ◌≤◌, ◌<◌}
-use native.Mathlib.Decide.{dec_le}
-use native.Mathlib.Omega.{arith}
-use lib.Bits.{bit_or}
-use lib.ListN.{get_or}
-use mir.Syntax.{w8}
-use mir.Val.{Fits}
-use borrow.Author.Rules.{rules}
-use Rattle.numbers.proofs.PackedLaws.{or_none}
-use Rattle.numbers.proofs.TestLaws.{unless_zero}
+use Prim.Native.Nat.{ℕ, ◌-◌, ◌*◌, ◌≤◌, ◌<◌}
 use Rattle.table.specs.Table.{stray_value}
-use Rattle.table.proofs.RowLaws.{ByteArray}
-use Rattle.table.proofs.TableLaws.{bytes_le}
-use Rattle.table.proofs.CareLaws.{stray_byte, kept_at, byte_kept, none_stray, kept_all}
+use Rattle.table.proofs.CareLaws.{kept_at}
 use Rattle.table.proofs.table.stray_value.Given as goal
 
 abbrev pub invariant-loop-at : goal.invariant-loop-at

@@ -1,10 +1,8 @@
 -- `decimal::digit_count` meets its contract. The loop's invariant: the digits of `rest` and those that are counted, the first twice, are as
 -- many as those of x. The measure is `rest`. Assumes nothing.
-use mathlib.Core.Path.{◌≡◌, ap}
-use Prim.Native.Nat.{◌+◌, ◌≤◌}
+use mathlib.Core.Path.{ap}
 use native.Mathlib.Omega.{arith}
 use lib.ListN.{length}
-use Rattle.text.specs.Text.{decimal}
 use Rattle.text.proofs.DecimalLaws.{decimal_one, decimal_less, decimal_twenty}
 use Rattle.text.proofs.decimal.digit_count.Goals as goal
 

@@ -1,11 +1,9 @@
 -- `decimal::digit_count` meets its contract. The loop's invariant: the digits of `rest` and those that are counted, the first twice, are as
 -- many as those of x. The measure is `rest`. Assumes nothing.
-use mathlib.Core.Path.{◌≡◌, ap}
+use mathlib.Core.Path.{◌≡◌}
 use Prim.Native.Nat.{◌+◌, ◌≤◌}
-use native.Mathlib.Omega.{arith}
 use lib.ListN.{length}
 use Rattle.text.specs.Text.{decimal}
-use Rattle.text.proofs.DecimalLaws.{decimal_one, decimal_less, decimal_twenty}
 use Rattle.text.proofs.decimal.digit_count.Given as goal
 
 abbrev pub invariant-loop-rest : goal.invariant-loop-rest

@@ -1,6 +1,5 @@
 -- `field::put_byte` meets its contract: the store is its text. Assumes nothing.
 use native.Mathlib.Omega.{arith}
-use borrow.Author.Rules.{rules}
 use Rattle.text.proofs.FieldWriting.{stored_byte}
 use Rattle.text.proofs.field.put_byte.Goals as goal
 

@@ -6,7 +6,6 @@ use native.Mathlib.Omega.{arith}
 use lib.ListN.{length-set}
 use Rattle.codec.proofs.WrittenLaws.{written_all}
 use Rattle.text.specs.Text.{spaced}
-use borrow.Author.Rules.{rules}
 use Rattle.text.proofs.field.put_letter.Goals as goal
 
 pub bounds-out-at-2 : goal.bounds-out-at-2

@@ -1,6 +1,5 @@
 -- `field::put_number` meets its contract: a space, and behind it the number. Assumes nothing.
 use mathlib.Core.List.{[], ◌∷◌}
-use borrow.Author.Rules.{rules}
 use Rattle.codec.proofs.WrittenLaws.{written_room, written_next}
 use Rattle.text.specs.Text.{decimal}
 use Rattle.text.proofs.field.put_number.Goals as goal

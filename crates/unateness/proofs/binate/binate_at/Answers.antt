@@ -2,20 +2,17 @@
 -- below `at`. The measure is the number of words left. Assumes nothing.
 use mathlib.Core.Path.{◌≡◌, sym, ◌∙◌, ap, ap₂}
 use mathlib.Core.Bool.{Bool, true, false, not, ◌&&◌}
-use Prim.Native.Nat.{ℕ, ◌*◌, ◌-◌, ◌≤◌, ◌<◌}
+use Prim.Native.Nat.{◌*◌, ◌≤◌, ◌<◌}
 use native.Mathlib.Omega.{arith}
-use borrow.Author.Rules.{rules}
 use borrow.Author.Tests.{eq-eqb, ne_eqb}
 use lib.Dec.{eqb}
-use Rattle.numbers.specs.Tabulate.{tabulate}
 use Rattle.types.specs.declared.table.Table.{Table}
 use Rattle.table.specs.Table.{rows, function_of}
 use Rattle.unateness.specs.declared.words.Pairs.{Pairs}
-use Rattle.numbers.specs.Packed.{packed}
-use Rattle.unateness.specs.Words.{word_of, on_side, side_words}
+use Rattle.unateness.specs.Words.{on_side, side_words}
 use Rattle.function.specs.Binate.{binate_at}
 use Rattle.function.proofs.BinateLaws.{binate_at_searches}
-use Rattle.unateness.proofs.TurnLaws.{gathered, turned, gather_none, gather_more, word_turned, turn_found}
+use Rattle.unateness.proofs.TurnLaws.{turned, gather_none, gather_more, word_turned, turn_found}
 use Rattle.unateness.proofs.binate.binate_at.Goals as goal
 use Rattle.unateness.proofs.binate.binate_at.Goals.{After-loop-at}
 

@@ -29,7 +29,7 @@ pub add_pair-requires : goal.add_pair-requires
 add_pair-requires c = (omega arith, partner (goal.at.add_pair-requires c).Start _ c.first_turn.ensures, λ row. omega (arith, get_d_zeros row))
 
 -- the counts of the first pair
-rising : (c : After-add_pair) → let a = c.args in c.add_pair.new.0 ≡ pair_more 2 a.place (first_turn (function_of a.table) true a.place) zeros
+rising : (c : After-add_pair) → let a = c.args in c.add_pair.new.counts ≡ pair_more 2 a.place (first_turn (function_of a.table) true a.place) zeros
 rising c =
     let a = c.args in c.add_pair.ensures (first_turn (function_of a.table) true a.place) c.first_turn.ensures
 

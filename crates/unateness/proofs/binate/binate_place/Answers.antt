@@ -2,10 +2,8 @@
 -- measure is the number of places left. Assumes nothing.
 use mathlib.Core.Path.{◌≡◌, refl, sym, ◌∙◌, ap}
 use mathlib.Core.Bool.{false}
-use Prim.Native.Nat.{ℕ, ◌+◌, ◌*◌, ◌-◌, ◌/◌, ◌≤◌, ◌<◌}
+use Prim.Native.Nat.{ℕ, ◌+◌, ◌*◌, ◌/◌, ◌≤◌, ◌<◌}
 use native.Mathlib.Omega.{arith}
-use borrow.Author.Count.{below_none, below_more}
-use borrow.Author.Rules.{rules}
 use Rattle.numbers.proofs.FirstLaws.{first_at, first_fails}
 use Rattle.types.specs.declared.table.Table.{Table}
 use Rattle.table.specs.Inputs.{lowest_of}
@@ -14,12 +12,8 @@ use Rattle.unateness.specs.Words.{side_words}
 use Rattle.function.specs.Binate.{binate_at}
 use Rattle.function.proofs.BinateLaws.{binate_place_search}
 use Rattle.table.specs.Table.{rows, function_of}
-use Rattle.table.proofs.TableLaws.{rows_le}
 use Rattle.unateness.proofs.binate.binate_place.Goals as goal
 use Rattle.unateness.proofs.binate.binate_place.Goals.{At-loop-place}
-
-pub loop-place-init : goal.loop-place-init
-loop-place-init c = (omega arith, omega (arith, c.row_count.ensures, rows_le c.requires), λ t h n e d. below_none _)
 
 -- the table that came in is one of the words
 abbrev table : At-loop-place → Table
@@ -55,18 +49,7 @@ returns-then-binate_at c =
       before = λ p l h. passed (goal.at.returns-then-binate_at c).At-loop-place p h;
     }))
 
-pub loop-place-preserved : goal.loop-place-preserved
-loop-place-preserved c =
-    (
-      omega arith,
-      c.loop-place.invariant.1,
-      λ t h n e d. below_more _ _ (c.loop-place.invariant.2 t h n e d) (sym (c.binate_at.ensures t h (omega arith) e d) ∙ c.if-binate_at.false),
-    )
-
 pub returns : goal.returns
 returns c =
     let t = table (goal.at.returns c).At-loop-place in
     sym (ap lowest_of (binate_place_search (function_of t) ∙ first_fails (binate_at (function_of t)) t.n 0 (λ p l h. passed (goal.at.returns c).At-loop-place p (omega arith))))
-
-pub overflow_add-words : goal.overflow_add-words
-overflow_add-words c = record { fits = omega (arith, c.row_count.ensures, rows_le c.requires) }

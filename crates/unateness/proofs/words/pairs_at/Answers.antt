@@ -3,7 +3,6 @@
 use mathlib.Core.Path.{◌≡◌, ◌∙◌, ap, ap₂}
 use Prim.Native.Nat.{ℕ, ◌+◌, ◌*◌, ◌-◌, ◌/◌, ◌^◌, ◌%◌, ◌<◌}
 use native.Mathlib.Omega.{arith}
-use borrow.Author.Rules.{rules}
 use lib.Bits.{bit_and}
 use lib.ListN.{get_or}
 use lib.Pow.{pow_mono}
@@ -56,12 +55,6 @@ further c =
 
 shifted : (c : Else-at-high-eq1) → let q = c.args.place - 6 in 1 * 2 ^ q % 2 ^ 64 ≡ 2 ^ q
 shifted c = one_shifted (c.args.place - 6) (omega arith)
-
-pub overflow_add-partner : goal.overflow_add-partner
-overflow_add-partner c = rw (shifted c) (omega (arith, further c))
-
-pub offset_bounds-words-at-2 : goal.offset_bounds-words-at-2
-offset_bounds-words-at-2 c = rw (shifted c) (omega (arith, further c))
 
 pub bounds-words-at-2 : goal.bounds-words-at-2
 bounds-words-at-2 c = rw (shifted c) (omega (arith, further c))

@@ -3,16 +3,15 @@
 use mathlib.Core.Path.{◌≡◌, refl, ◌∙◌, ap, ap₂}
 use mathlib.Core.Bool.{Bool, true, false, ◌&&◌}
 use mathlib.Core.List.{List}
-use Prim.Native.Nat.{ℕ, ◌+◌, ◌*◌, ◌-◌, ◌^◌, ◌≤◌}
+use Prim.Native.Nat.{ℕ, ◌+◌, ◌*◌, ◌-◌, ◌^◌}
 use native.Mathlib.Omega.{arith}
-use borrow.Author.Rules.{rules}
 use lib.Bits.{bit_and}
 use lib.Dec.{ltb}
 use lib.ListN.{replicate}
 use Rattle.numbers.specs.Packed.{packed}
 use Rattle.numbers.specs.Tests.{same_bool}
 use Rattle.numbers.proofs.PackedLaws.{packed_ext}
-use Rattle.numbers.proofs.TabulateLaws.{filled, filled_none, filled_more, filled_all, tabulate_ext}
+use Rattle.numbers.proofs.TabulateLaws.{filled_none, filled_more, filled_all, tabulate_ext}
 use Rattle.types.specs.declared.table.Table.{Table}
 use Rattle.table.specs.Table.{rows, bit_at}
 use Rattle.scan.specs.Scan.{in_table}

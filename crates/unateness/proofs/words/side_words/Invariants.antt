@@ -1,23 +1,13 @@
 -- `words::side_words` meets its contract. The loop's invariant: the words of both sides below `at` are made. The measure is the number of words
 -- left. Assumes nothing.
-use mathlib.Core.Path.{◌≡◌, refl, ◌∙◌, ap, ap₂}
-use mathlib.Core.Bool.{Bool, true, false, ◌&&◌}
+use mathlib.Core.Path.{◌≡◌}
 use mathlib.Core.List.{List}
-use Prim.Native.Nat.{ℕ, ◌+◌, ◌*◌, ◌-◌, ◌^◌, ◌≤◌}
-use native.Mathlib.Omega.{arith}
-use borrow.Author.Rules.{rules}
+use Prim.Native.Nat.{ℕ, ◌-◌, ◌^◌, ◌≤◌}
 use lib.Bits.{bit_and}
-use lib.Dec.{ltb}
-use lib.ListN.{replicate}
-use Rattle.numbers.specs.Packed.{packed}
-use Rattle.numbers.specs.Tests.{same_bool}
-use Rattle.numbers.proofs.PackedLaws.{packed_ext}
-use Rattle.numbers.proofs.TabulateLaws.{filled, filled_none, filled_more, filled_all, tabulate_ext}
-use Rattle.types.specs.declared.table.Table.{Table}
+use Rattle.numbers.proofs.TabulateLaws.{filled}
 use Rattle.table.specs.Table.{rows, bit_at}
 use Rattle.scan.specs.Scan.{in_table}
-use Rattle.unateness.specs.Words.{bits_from, word_of, on_side}
-use Rattle.unateness.proofs.PairLaws.{word_trues, word_falses}
+use Rattle.unateness.specs.Words.{word_of}
 use Rattle.unateness.proofs.words.side_words.Given as goal
 
 -- a word of the true rows, and one of the false rows, as the code makes them

@@ -2,21 +2,13 @@
 use mathlib.Core.Path.{◌∙◌, ap₂}
 use Prim.Native.Nat.{◌*◌, ◌-◌, ◌%◌}
 use native.Mathlib.Omega.{arith}
-use lib.Pow.{pow_pos}
 use Rattle.numbers.proofs.PowerLaws.{one_shifted}
 use Rattle.unateness.proofs.PairLaws.{word_past, word_whole, word_cut}
-use borrow.Author.Rules.{rules}
 use Rattle.unateness.proofs.words.word_at.Goals as goal
 
 pub returns-then-rows-first : goal.returns-then-rows-first
 returns-then-rows-first c =
     let a = c.args in word_past a.bytes.now a.rows a.at c.if-rows-first.true
-
-pub nonzero_rem-result : goal.nonzero_rem-result
-nonzero_rem-result c =
-    let a = c.args in
-    let left = a.rows - 64 * a.at in
-    rw (one_shifted left (omega arith)) (omega (arith, pow_pos left))
 
 pub returns-then-left-lt64 : goal.returns-then-left-lt64
 returns-then-left-lt64 c =
