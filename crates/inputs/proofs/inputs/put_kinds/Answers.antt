@@ -21,10 +21,10 @@ long places e = kind_count places ∙ e
 
 module _ (c : Start) where
   abbrev bytes : List ℕ
-  bytes = input_bytes c.args.t1
+  bytes = input_bytes c.args.places
 
   count : length bytes ≡ 8
-  count = let eight : length c.args.t1 ≡ 8 = search rules in long c.args.t1 eight
+  count = let eight : length c.args.places ≡ 8 = search rules in long c.args.places eight
 
 pub returns-then-out-lt8 : goal.returns-then-out-lt8
 returns-then-out-lt8 c = returned_short c.args.out.now (bytes (goal.at.returns-then-out-lt8 c).Start) (count (goal.at.returns-then-out-lt8 c).Start) (omega (arith, c.if-out-lt8.true)) (back w64 c.refusal.type_inv ∙ c.refusal.ensures)
