@@ -3,8 +3,12 @@
 use Rattle.core.specs.Prelude.{◌≡◌, ℕ, zero, suc, ◌+◌, ◌^◌, ◌≤◌, Bool, true, false, eqb, get_or, ℤ, pos}
 use mathlib.Core.Path.{refl, sym, ◌∙◌, ap}
 use native.Mathlib.Omega.{arith}
+use mathlib.Core.List.{List, [], ◌∷◌}
+use denote.Array.{each}
+use denote.Shadow.{shadow}
+use denote.Signed.{SInt}
 use mir.Syntax.{Width, w32}
-use mir.Val.{to_z, of_z, SFits}
+use mir.Val.{Val, to_z, of_z, SFits}
 use mir.Facts.{to_z-of_z}
 use borrow.Author.Tests.{eqb-true, eqb-false}
 use Rattle.numbers.specs.Tests.{same_z}
@@ -13,6 +17,13 @@ use Rattle.numbers.proofs.Widths.{fits_size}
 use Rattle.numbers.proofs.TestLaws.{not_passed, same_z_correct}
 use Rattle.types.specs.declared.vector.Vector.{Vector}
 use Rattle.function.specs.Vector.{component}
+
+-- an element of an array of 32 bits that is a field is in their range, for `search`, from what the code's types say of it
+pub signed_fits_row : (xs : List ℤ) (us : List Val) (i : ℕ) → shadow (each ℤ (SInt w32).own_val xs us) → SFits w32 (get_or xs i (pos 0))
+signed_fits_row [] us i p = record { sfits = omega arith }
+signed_fits_row (x ∷ xs) [] i p = absurd p
+signed_fits_row (x ∷ xs) (u ∷ us) zero p = record { sfits = p.0.1 }
+signed_fits_row (x ∷ xs) (u ∷ us) (suc i) p = signed_fits_row xs us i p.1
 
 -- a component of a vector of 32 bits is at most 2^31 in size
 pub component_size : (v : Vector) (i : ℕ) → SFits w32 v.b → ((place : ℕ) → SFits w32 (get_or v.a place (pos 0)))

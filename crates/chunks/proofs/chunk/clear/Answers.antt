@@ -1,9 +1,8 @@
 -- `chunks::chunk::clear` meets its contract. The loop's invariant: the counts of the rows below `row` are 0. The measure is the number of rows
 -- left. Assumes nothing.
-use Rattle.core.specs.Prelude.{◌≡◌, ℕ, ◌-◌, ◌≤◌, length}
+use Rattle.core.specs.Prelude.{◌≡◌, ℕ}
 use mathlib.Core.Path.{refl, ◌∙◌, ap}
 use native.Mathlib.Omega.{arith}
-use borrow.Author.Rules.{rules}
 use lib.ListN.{length-set}
 use Rattle.numbers.proofs.TabulateLaws.{filled, filled_none, filled_more}
 use Rattle.chunks.proofs.chunk.clear.Goals as goal

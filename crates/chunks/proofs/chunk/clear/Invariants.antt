@@ -1,11 +1,7 @@
 -- `chunks::chunk::clear` meets its contract. The loop's invariant: the counts of the rows below `row` are 0. The measure is the number of rows
 -- left. Assumes nothing.
 use Rattle.core.specs.Prelude.{◌≡◌, ℕ, ◌-◌, ◌≤◌, length}
-use mathlib.Core.Path.{refl, ◌∙◌, ap}
-use native.Mathlib.Omega.{arith}
-use borrow.Author.Rules.{rules}
-use lib.ListN.{length-set}
-use Rattle.numbers.proofs.TabulateLaws.{filled, filled_none, filled_more}
+use Rattle.numbers.proofs.TabulateLaws.{filled}
 use Rattle.chunks.proofs.chunk.clear.Given as goal
 
 abbrev pub invariant-loop-row : goal.invariant-loop-row

@@ -1,6 +1,5 @@
 -- `sound::has_looped` meets its contract: the two tests, one after the other. Assumes nothing.
 use mathlib.Core.Path.{refl}
-use borrow.Author.Rules.{rules}
 use borrow.Author.Tests.{le-leb, lt-leb}
 use Rattle.soundness.proofs.TestLaws.{and_passed, and_failed}
 use Rattle.soundness.proofs.sound.has_looped.Goals as goal

@@ -2,12 +2,13 @@
 -- nothing.
 use Rattle.core.specs.Prelude.{◌≡◌, ℕ, true, false, List}
 use mathlib.Core.Path.{refl, sym, ◌∙◌, ap}
-use mathlib.Core.Logic.{⊎_elim}
 use mathlib.Core.Option.{Option, some, none}
 use borrow.Author.Rules.{rules}
 use Rattle.function.proofs.BinateLaws.{binate_place_lt}
 use Rattle.table.proofs.InputLaws.{lowest_some, lowest_none}
-use Rattle.types.specs.declared.table.Table.{Table}
+use Rattle.table.specs.Inputs.{lowest_of}
+use Rattle.table.specs.declared.lowest.Lowest.{Lowest}
+use Rattle.table.specs.declared.lowest.Lowest.TheVariants.{At}
 use Rattle.numbers.specs.Tests.{is_some}
 use Rattle.numbers.proofs.TestLaws.{no_true}
 use Rattle.function.specs.Function.{Function}
@@ -20,7 +21,7 @@ use Rattle.state.specs.Machine.{start_state, fresh}
 use Rattle.state.proofs.MachineLaws.{fresh_open, fresh_found, fresh_binate}
 use Rattle.table.specs.Table.{function_of}
 use Rattle.stepping.proofs.start.fresh_state.Goals as goal
-use Rattle.stepping.proofs.start.fresh_state.Goals.{In-At}
+use Rattle.stepping.proofs.start.fresh_state.Goals.{then-some_cared, else-some_cared}
 
 pub enum_told-1 : goal.enum_told-1
 enum_told-1 c = search rules
@@ -40,27 +41,23 @@ returns-in_default c =
     let f = function_of c.args.table in
     let unate = lowest_none (binate_place f) (sym c.binate_place.ensures ∙ c.in_default.is) in
     c.start_state.ensures
-    ∙ ⊎_elim
-    (λ w. ap (start_state zeros) w.1 ∙ opened f unate _ refl (sym c.some_cared.ensures ∙ w.0.taken))
-    (λ w. ap (start_state zeros) w.1 ∙ ended f unate _ refl (sym c.some_cared.ensures ∙ w.0.left))
-    c.if-some_cared.branch
+    ∙ elim c.if-some_cared.branch [
+      | then-some_cared w ↦ ap (start_state zeros) w.stage-is ∙ opened f unate _ refl (sym c.some_cared.ensures ∙ w.if-some_cared.true)
+      | else-some_cared w ↦ ap (start_state zeros) w.stage-is ∙ ended f unate _ refl (sym c.some_cared.ensures ∙ w.if-some_cared.false)
+    ]
 
--- the table, and the place that was found
-abbrev table : In-At → Table
-table c = c.before.before.before.before.args.table
-
-abbrev place : In-At → ℕ
-place c = c.before.place.given.0.0
-
-place_found : (c : In-At) → binate_place (function_of (table c)) ≡ some (place c)
-place_found c = lowest_some (binate_place (function_of (table c))) (place c) (sym c.binate_place.ensures ∙ c.in-At.is)
+-- the place that was found
+place_found : (f : Function) {found : Lowest} (place : ℕ) → found ≡ lowest_of (binate_place f) → found ≡ At place → binate_place f ≡ some place
+place_found f place found is = lowest_some (binate_place f) place (sym found ∙ is)
 
 pub binate_counts-requires : goal.binate_counts-requires
-binate_counts-requires c = (c.requires, binate_place_lt (function_of (table c)) (place c) (place_found c))
+binate_counts-requires c =
+    let f = function_of c.args.table in
+    (c.requires, binate_place_lt f c.in-At.place (place_found f c.in-At.place c.binate_place.ensures c.in-At.is))
 
 pub returns : goal.returns
 returns c =
-    let t = table (goal.at.returns c).In-At in
+    let f = function_of c.args.table in
     c.start_state-2.ensures
     ∙ ap (λ (counts : List ℕ). start_state counts Stage'.Binate) c.binate_counts.ensures
-    ∙ sym (fresh_binate (function_of t) (place (goal.at.returns c).In-At) (place_found (goal.at.returns c).In-At))
+    ∙ sym (fresh_binate f c.in-At.place (place_found f c.in-At.place c.binate_place.ensures c.in-At.is))

@@ -1,9 +1,7 @@
 -- `stepping::start::some_cared` meets its contract: at the vector 0 a row fails exactly if it is cared for. The loop's invariant: no row below
 -- `row` is cared for. The measure is what is left of the rows. Assumes nothing.
-use Rattle.core.specs.Prelude.{◌≡◌, ℕ, ◌-◌, ◌<◌, ◌≤◌, false}
 use mathlib.Core.Path.{sym, ◌∙◌, ap}
 use native.Mathlib.Omega.{arith}
-use borrow.Author.Rules.{rules}
 use borrow.Author.Count.{below_more}
 use Rattle.numbers.specs.Tests.{is_some}
 use Rattle.numbers.proofs.FirstLaws.{first_at, first_fails}

@@ -2,7 +2,6 @@
 -- LeftLaws). The measure is what is left. Assumes nothing.
 use Rattle.core.specs.Prelude.{◌≡◌, ◌<◌, ◌≤◌}
 use mathlib.Core.Path.{refl}
-use mathlib.Core.Logic.{⊎_elim}
 use native.Mathlib.Omega.{arith}
 use Rattle.lanes.specs.Sums.{magnitude}
 use Rattle.types.specs.declared.stage.Stage.TheVariants.{Open}
@@ -12,7 +11,7 @@ use Rattle.state.proofs.SoundBounds.{in_range_search, unit_current, unit_copied}
 use Rattle.stepping.proofs.LeftLaws.{Left, left_start, left_next, left_sound, left_capped}
 use Rattle.table.specs.Table.{function_of}
 use Rattle.stepping.proofs.stepping.fast_steps.Goals as goal
-use Rattle.stepping.proofs.stepping.fast_steps.Goals.{At-loop-table, In-loop-table, Joined-left-lt-CHUNK}
+use Rattle.stepping.proofs.stepping.fast_steps.Goals.{At-loop-table, In-loop-table, Joined-left-lt-CHUNK, then-left-lt-CHUNK, else-left-lt-CHUNK}
 
 pub loop-table-init : goal.loop-table-init
 loop-table-init c = left_start _ _
@@ -36,7 +35,11 @@ fast c = c.is_fast.ensures c.loop-table-test.true
 -- the part of a pass is 1 to 750 of what is left
 part_of : (c : Joined-left-lt-CHUNK) → (0 < c.if-left-lt-CHUNK.part) × (c.if-left-lt-CHUNK.part ≤ 750) × (c.if-left-lt-CHUNK.part ≤ c.loop-table.left)
 part_of c =
-    let some = (fast c.before).0 in ⊎_elim (λ w. (omega arith, omega arith, omega arith)) (λ w. (omega arith, omega arith, omega arith)) c.if-left-lt-CHUNK.branch
+    let some = (fast c.before).0 in
+    elim c.if-left-lt-CHUNK.branch [
+      | then-left-lt-CHUNK w ↦ (omega arith, omega arith, omega arith)
+      | else-left-lt-CHUNK w ↦ (omega arith, omega arith, omega arith)
+    ]
 
 pub chunk-core-requires : goal.chunk-core-requires
 chunk-core-requires c =

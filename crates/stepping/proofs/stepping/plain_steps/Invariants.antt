@@ -21,6 +21,12 @@ use Rattle.state.proofs.MachineLaws.{marked_power, marked_other}
 use Rattle.chunks.proofs.UnsettledLaws.{Unsettled, unsettled_start, unsettled_found, unsettled_row, unsettled_open, unsettled_looped, corrected_to, unsettled_next, Bounded, unsettled_bounded}
 use Rattle.stepping.proofs.stepping.plain_steps.Given as goal
 
+-- the invariant: `made` of the budget's steps are made from `start`
+pub record Turned (t : Table) (start : State) (budget made : ℕ) (x : State) (next : Lowest) : Type 0 where
+  pub unsettled : Unsettled t start made x
+  pub search : next ≡ lowest_of (failing (function_of t) x.v)
+  pub within : made ≤ budget
+
 abbrev pub invariant-loop-made : goal.invariant-loop-made
 invariant-loop-made l = Turned l.table l.initial.j l.budget l.made l.j l.next
 

@@ -9,9 +9,9 @@ use mir.Facts.{to_z-of_z, to_z_pos}
 use borrow.Author.Rules.{rules}
 use Rattle.numbers.specs.Tests.{same_z}
 use Rattle.numbers.proofs.Int.{up, dn, size_add}
-use Rattle.numbers.proofs.Widths.{size_fits, signed_fits_field}
+use Rattle.numbers.proofs.Widths.{size_fits}
 use Rattle.function.specs.Vector.{component}
-use Rattle.trace.proofs.SizeLaws.{component_size, same_z_bits}
+use Rattle.trace.proofs.SizeLaws.{signed_fits_row, component_size, same_z_bits}
 use Rattle.trace.proofs.traced.traced_at.Goals as goal
 use Rattle.trace.proofs.traced.traced_at.Goals.{After-component, After-component-2, Start}
 
@@ -28,10 +28,10 @@ adds {z} x {m} e h k =
 
 -- the components of v and s are small
 current_small : (c : Start) → let z = component c.args.v c.args.input in up z + dn z ≤ 2 ^ 31
-current_small c = component_size c.args.v c.args.input (search rules) (λ place. search (rules, signed_fits_field))
+current_small c = component_size c.args.v c.args.input (search rules) (λ place. search (rules, signed_fits_row))
 
 copied_small : (c : Start) → let z = component c.args.s c.args.input in up z + dn z ≤ 2 ^ 31
-copied_small c = component_size c.args.s c.args.input (search rules) (λ place. search (rules, signed_fits_field))
+copied_small c = component_size c.args.s c.args.input (search rules) (λ place. search (rules, signed_fits_row))
 
 -- of v's component with what is taken, and of s's with what is added
 current_adds : (c : After-component) → let a = c.args in SFits w64 (added c.component.result a.taken) × (added c.component.result a.taken ≡ component a.v a.input +ℤ pos a.taken)
