@@ -45,12 +45,11 @@ pub bounds-counts-row : goal.bounds-counts-row
 bounds-counts-row c = omega (arith, c.loop-row.invariant.2, c.if-counts-rows.false)
 
 pub loop-row-preserved : goal.loop-row-preserved
-loop-row-preserved c =
-    (
-      omega arith,
-      filled_more _ c.args.counts.now c.loop-row.row (omega (arith, c.if-counts-rows.false)) c.loop-row.invariant.1 refl,
-      simp length-set c.loop-row.invariant.2,
-    )
+loop-row-preserved c = (
+  omega arith,
+  filled_more _ c.args.counts.now c.loop-row.row (omega (arith, c.if-counts-rows.false)) c.loop-row.invariant.1 refl,
+  simp length-set c.loop-row.invariant.2,
+)
 
 pub overflow_cast-result : goal.overflow_cast-result
 overflow_cast-result c = omega (arith, few c.args.table _ c.requires c.row_count-rows.ensures)

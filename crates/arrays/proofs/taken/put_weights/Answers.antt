@@ -40,8 +40,7 @@ bounds-weights-place c = omega (arith, c.loop-place.invariant.2, c.if-weights-n.
 pub loop-place-preserved : goal.loop-place-preserved
 loop-place-preserved c =
     let weight = get_or c.args.gate.weights c.loop-place.place (pos 0) in
-    let held : to_z w32 (of_z w32 weight) ≡ weight = search rules in
-    (
+    let held : to_z w32 (of_z w32 weight) ≡ weight = search rules in (
       omega arith,
       filled_more _ c.args.weights.now c.loop-place.place (omega (arith, c.if-weights-n.false)) c.loop-place.invariant.1 held,
       simp length-set c.loop-place.invariant.2,

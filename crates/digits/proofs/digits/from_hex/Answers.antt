@@ -70,10 +70,10 @@ returns-then-not-all_digits c =
 -- each character is a digit
 pub digit_bytes-requires : goal.digit_bytes-requires
 digit_bytes-requires c = (
-      c.if-inputs-gt8.false,
-      counted c.args.inputs _ c.args.digits.now c.row_count.ensures c.if-digits-row_count.false,
-      sym c.all_digits.ensures ∙ c.if-not-all_digits.false,
-    )
+  c.if-inputs-gt8.false,
+  counted c.args.inputs _ c.args.digits.now c.row_count.ensures c.if-digits-row_count.false,
+  sym c.all_digits.ensures ∙ c.if-not-all_digits.false,
+)
 
 pub put_table_record-requires : goal.put_table_record-requires
 put_table_record-requires c = omega (arith, ap (λ (t : Table). t.n) c.whole_table.ensures)
