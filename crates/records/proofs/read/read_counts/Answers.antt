@@ -4,6 +4,7 @@ use Rattle.core.specs.Prelude.{◌≡◌, ℕ, Bool, true, false, not, ◌&&◌,
 use mathlib.Core.Path.{sym, ◌∙◌, ap, ap₂}
 use native.Mathlib.Omega.{arith}
 use borrow.Author.Rules.{rules}
+use borrow.Author.Tests.{not-false, not-true}
 use Rattle.types.specs.declared.table.Table.{Table}
 use Rattle.table.specs.Table.{rows, function_of}
 use Rattle.table.specs.Witness.{CountArray}
@@ -73,7 +74,7 @@ returns-in-Refused c =
 pub returns-then-not-field : goal.returns-then-not-field
 returns-then-not-field c =
     let a = c.args in
-    let unkept = ap (λ (b : Bool). b && is_sound (open_job a.table a.k a.v a.s c.read_rows-field.result.counts)) c.if-not-field.true in
+    let unkept = ap (λ (b : Bool). b && is_sound (open_job a.table a.k a.v a.s c.read_rows-field.result.counts)) (not-true c.read_rows-field.result.kept c.if-not-field.true) in
     c.no_body-then-not-field.ensures
     ∙ ap record_field (broken a.table a.k a.v a.s a.bytes.now a.at c.read_rows-field.ensures c.rows_of.ensures c.in_default.is unkept)
 
@@ -95,7 +96,7 @@ kept_is t k v w counts core kept e says =
 pub returns-then-not-is_sound : goal.returns-then-not-is_sound
 returns-then-not-is_sound c =
     let a = c.args in
-    let unsound = kept_is a.table a.k a.v a.s c.read_rows-field.result.counts c.open_core-core.result c.if-not-field.false c.open_core-core.ensures c.is_sound.ensures in
+    let unsound = kept_is a.table a.k a.v a.s c.read_rows-field.result.counts c.open_core-core.result (not-false c.read_rows-field.result.kept c.if-not-field.false) c.open_core-core.ensures c.is_sound.ensures in
     c.no_body-then-not-is_sound.ensures
     ∙ ap record_field
     (broken a.table a.k a.v a.s a.bytes.now a.at c.read_rows-field.ensures c.rows_of.ensures c.in_default.is (unsound ∙ c.if-not-is_sound.true))
@@ -105,7 +106,7 @@ returns c =
     let a = c.args in
     let counts = c.read_rows-field.result.counts in
     let state = c.state_of.ensures ∙ state_is c.open_core-core.result a.k a.v a.s counts c.open_core-core.ensures a.table in
-    let sound = kept_is a.table a.k a.v a.s counts c.open_core-core.result c.if-not-field.false c.open_core-core.ensures c.is_sound.ensures in
+    let sound = kept_is a.table a.k a.v a.s counts c.open_core-core.result (not-false c.read_rows-field.result.kept c.if-not-field.false) c.open_core-core.ensures c.is_sound.ensures in
     (λ i. let r = c.bare-read.ensures i in
     record {
       read = record { kind = r.kind; table = r.table; gate = r.gate; witness = r.witness; job = record { table = a.table; state = state i } };

@@ -29,11 +29,11 @@ current t bytes k p = onward (vector_at false t.n bytes p) (copied t bytes k)
 
 -- a field that was read leaves what comes after it
 module _ (t : Table) (bytes : List ℕ) (at : ℕ) where
-  module _ {k : NumberField} (read : number_at bytes at ≡ answered (number_of k)) where
+  module _ (k : NumberField) (read : number_at bytes at ≡ answered (number_of k)) where
     past_number : {next : Reading Record} → next ≡ current t bytes k.value k.next → next ≡ job_at t bytes at
     past_number e = e ∙ onward_read (number_at bytes at) (current t bytes) read
 
-    module _ {v : VectorField} (v_read : vector_at false t.n bytes k.next ≡ answered (field v.v v.next)) where
+    module _ (v : VectorField) (v_read : vector_at false t.n bytes k.next ≡ answered (field v.v v.next)) where
       past_current : {next : Reading Record} → next ≡ copied t bytes k.value v.v v.next → next ≡ job_at t bytes at
       past_current e = past_number (e ∙ onward_read (vector_at false t.n bytes k.next) (copied t bytes k.value) v_read)
 
@@ -54,7 +54,7 @@ returns-in-Refused-status c =
     let read = vector_at false a.table.n s k.next in
     c.no_body-in-Refused-status.ensures
     ∙ ap record_field
-    (past_number a.table s a.at (number_done (number_at s a.at) c.read_number-k.ensures c.in_default.is)
+    (past_number a.table s a.at k (number_done (number_at s a.at) c.read_number-k.ensures c.in_default.is)
     (onward_refused read (copied a.table s k.value) (vector_refused read c.read_vector-v.ensures c.in-Refused-status.is)))
 
 -- ---- s
@@ -67,8 +67,8 @@ returns-in-Refused-status-2 c =
     let read = vector_at false a.table.n s v.next in
     c.no_body-in-Refused-status-2.ensures
     ∙ ap record_field
-    (past_current a.table s a.at (number_done (number_at s a.at) c.read_number-k.ensures c.in_default.is)
-    (vector_done (vector_at false a.table.n s k.next) c.read_vector-v.ensures c.in_default-status.is)
+    (past_current a.table s a.at k (number_done (number_at s a.at) c.read_number-k.ensures c.in_default.is)
+    v (vector_done (vector_at false a.table.n s k.next) c.read_vector-v.ensures c.in_default-status.is)
     (onward_refused read (counts a.table s k.value v.v) (vector_refused read c.read_vector-s.ensures c.in-Refused-status-2.is)))
 
 -- ---- the row list
@@ -81,6 +81,6 @@ returns c =
     let read = vector_at false a.table.n s v.next in
     c.read_counts.ensures
     ∙ ap record_field
-    (past_current a.table s a.at (number_done (number_at s a.at) c.read_number-k.ensures c.in_default.is)
-    (vector_done (vector_at false a.table.n s k.next) c.read_vector-v.ensures c.in_default-status.is)
+    (past_current a.table s a.at k (number_done (number_at s a.at) c.read_number-k.ensures c.in_default.is)
+    v (vector_done (vector_at false a.table.n s k.next) c.read_vector-v.ensures c.in_default-status.is)
     (onward_read read (counts a.table s k.value v.v) (vector_done read c.read_vector-s.ensures c.in_default-status-2.is)))

@@ -2,7 +2,6 @@
 use Rattle.core.specs.Prelude.{◌≡◌, ℕ, true, List}
 use mathlib.Core.Path.{◌∙◌, ap}
 use native.Mathlib.Omega.{arith}
-use borrow.Author.Rules.{rules}
 use Rattle.types.specs.declared.table.Table.{Table}
 use Rattle.table.specs.Table.{rows}
 use Rattle.table.proofs.TableLaws.{rows_le}
