@@ -3,7 +3,6 @@ use mathlib.Core.Path.{◌∙◌, ap}
 use mathlib.Core.List.{[], ◌∷◌}
 use Prim.Native.Nat.{ℕ}
 use mir.Syntax.{w64}
-use borrow.Author.Rules.{rules}
 use Rattle.numbers.proofs.Int.{back}
 use Rattle.refusal.specs.Refusal.{Answered}
 use Rattle.cell.specs.Calls.{check_gate, check_witness}

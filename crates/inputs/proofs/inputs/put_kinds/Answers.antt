@@ -2,7 +2,7 @@
 -- buffer is as long as it was. The measure is what is left of the eight places. Assumes nothing.
 use mathlib.Core.Path.{◌≡◌, sym, ◌∙◌}
 use mathlib.Core.List.{List}
-use Prim.Native.Nat.{ℕ, ◌-◌}
+use Prim.Native.Nat.{ℕ}
 use native.Mathlib.Omega.{arith}
 use lib.ListN.{length}
 use mir.Syntax.{w64}
@@ -11,7 +11,7 @@ use Rattle.numbers.proofs.Int.{back}
 use Rattle.types.specs.declared.inputs.Place.{Place}
 use Rattle.results.proofs.ResultLaws.{returned_short}
 use Rattle.inputs.specs.Inputs.{input_bytes}
-use Rattle.inputs.proofs.ByteLaws.{kind_count, kind_at, Stored, stored_none, stored_more, stored_all}
+use Rattle.inputs.proofs.ByteLaws.{kind_count, kind_at, stored_none, stored_more, stored_all}
 use Rattle.inputs.proofs.inputs.put_kinds.Goals as goal
 use Rattle.inputs.proofs.inputs.put_kinds.Goals.{Start}
 

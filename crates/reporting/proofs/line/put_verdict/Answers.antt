@@ -3,53 +3,61 @@ use mathlib.Core.Path.{◌≡◌}
 use mathlib.Core.List.{List, [], ◌∷◌, ◌++◌}
 use Prim.Native.Nat.{ℕ, ◌+◌, ◌≤◌}
 use lib.ListN.{length}
-use borrow.Author.Rules.{rules}
 use Rattle.types.specs.declared.stage.Stage.{Stage}
 use Rattle.types.specs.declared.stage.Stage.TheVariants.{Open}
+use Rattle.job.specs.declared.job.Job.{Job}
 use Rattle.text.specs.Text.{decimal, spaced}
 use Rattle.reporting.specs.Lines.{open_text, verdict_text}
 use Rattle.text.proofs.FieldWriting.{Left, all_left, next_room, next_left}
 use Rattle.reporting.proofs.line.put_verdict.Goals as goal
-use Rattle.reporting.proofs.line.put_verdict.Goals.{After-put_letter-here, In-Open, Start}
 
 -- the room for the text of a stage that the job is in
-room : (s : Start) {x : Stage} → s.args.job.state.stage ≡ x → s.args.at + length (verdict_text x s.args.job) ≤ length s.args.out.now
-room s e = rw (← e) s.requires.1
+room : (out : List ℕ) (at : ℕ) (j : Job) {x : Stage} → at + length (verdict_text j.state.stage j) ≤ length out → j.state.stage ≡ x
+    → at + length (verdict_text x j) ≤ length out
+room out at j h e = rw (← e) h
 
--- what is left of an open job's text
-abbrev OpenLeft : In-Open → List ℕ → ℕ → List ℕ → Type 0
-OpenLeft c out here rest =
-    let a = c.before.before.before.before.before.before.args in
-    Left a.out.now a.at (verdict_text a.job.state.stage a.job) out here rest
+-- the fields of an open job's text
+abbrev letter : List ℕ
+letter = spaced (83 ∷ [])
 
-abbrev k-text : In-Open → List ℕ
-k-text c = spaced (decimal c.before.before.before.before.before.before.args.job.state.k)
+abbrev number : Job → List ℕ
+number j = spaced (decimal j.state.k)
 
-at_letter : (c : In-Open) → (let a = c.args in OpenLeft c a.out.now a.at (spaced (83 ∷ []) ++ k-text c))
+-- what is left of it at first
+at_letter : (out : List ℕ) (at : ℕ) (j : Job) → at + length (verdict_text j.state.stage j) ≤ length out → j.state.stage ≡ Open
+    → Left out at (verdict_text j.state.stage j) out at (letter ++ number j)
 unfolding open_text
-at_letter c =
-    rw c.in-Open.is (all_left c.args.out.now c.args.at (verdict_text Open c.args.job) (room c.before.before.before.before.before.before c.in-Open.is))
+at_letter out at j h e = rw e (all_left out at (verdict_text Open j) (room out at j h e))
 
 pub put_letter-here-requires : goal.put_letter-here-requires
-put_letter-here-requires c = next_room (spaced (83 ∷ [])) (k-text (goal.at.put_letter-here-requires c).In-Open) (at_letter (goal.at.put_letter-here-requires c).In-Open)
-
-at_k : (c : After-put_letter-here) → OpenLeft c.before.before c.put_letter-here.new.0 c.put_letter-here.result (k-text c.before.before)
-at_k c = next_left (spaced (83 ∷ [])) (k-text c.before.before) (at_letter c.before.before) c.put_letter-here.ensures
+put_letter-here-requires c =
+    let a = c.args in
+    next_room letter (number a.job) (at_letter a.out.now a.at a.job c.requires.1 c.in-Open.is)
 
 pub put_number-requires : goal.put_number-requires
-put_number-requires c = (at_k (goal.at.put_number-requires c).After-put_letter-here).room
+put_number-requires c =
+    let a = c.args in
+    (next_left letter (number a.job) (at_letter a.out.now a.at a.job c.requires.1 c.in-Open.is) c.put_letter-here.ensures).room
 
 pub put_gate-requires : goal.put_gate-requires
-put_gate-requires c = rw c.vector_gate.ensures (c.requires.0, room (goal.at.put_gate-requires c).After-slice_known-1 c.in-Found.is)
+put_gate-requires c =
+    let a = c.args in
+    rw c.vector_gate.ensures (c.requires.0, room a.out.now a.at a.job c.requires.1 c.in-Found.is)
 
 pub put_witness-requires : goal.put_witness-requires
-put_witness-requires c = (c.requires.0, room (goal.at.put_witness-requires c).Start c.in-Looped.is)
+put_witness-requires c =
+    let a = c.args in
+    (c.requires.0, room a.out.now a.at a.job c.requires.1 c.in-Looped.is)
 
 pub put_witness-requires-in-Binate : goal.put_witness-requires-in-Binate
-put_witness-requires-in-Binate c = (c.requires.0, room (goal.at.put_witness-requires-in-Binate c).Start c.in-Binate.is)
+put_witness-requires-in-Binate c =
+    let a = c.args in
+    (c.requires.0, room a.out.now a.at a.job c.requires.1 c.in-Binate.is)
 
 pub returns-in-Open : goal.returns-in-Open
-returns-in-Open c = (at_k (goal.at.returns-in-Open c).After-put_letter-here).done c.put_number.ensures
+returns-in-Open c =
+    let a = c.args in
+    (next_left letter (number a.job) (at_letter a.out.now a.at a.job c.requires.1 c.in-Open.is) c.put_letter-here.ensures).done c.put_number.ensures
 
 pub returns-in-Found : goal.returns-in-Found
 returns-in-Found c = rw c.in-Found.is (rw c.vector_gate.ensures at c.put_gate.ensures)
