@@ -7,7 +7,6 @@ use mathlib.Core.Path.{◌∙◌, ap, ◌≡◌}
 use mathlib.Core.Bool.{not}
 use mathlib.Core.List.{List, []}
 use Prim.Native.Nat.{ℕ}
-use native.Mathlib.Omega.{arith}
 use lib.ListN.{length}
 use lib.IntN.{ℤ}
 use borrow.Author.Tests.{eq-eqb, ne_eqb}
@@ -31,9 +30,6 @@ returns-then-weights-table c =
     let a = c.args in
     let other = ap not (ne_eqb (length a.weights.now) a.table.n c.if-weights-table.true) in
     back w64 c.refusal.type_inv ∙ c.refusal.ensures ∙ ap as_result (rule_broken 104 [] (checks a.table a.weights.now a.threshold) other)
-
-pub gate_with-requires : goal.gate_with-requires
-gate_with-requires c = omega arith
 
 pub returns : goal.returns
 returns c =

@@ -7,7 +7,6 @@ use mathlib.Core.Path.{◌∙◌, ap, ◌≡◌}
 use mathlib.Core.Bool.{not}
 use mathlib.Core.List.{List, []}
 use Prim.Native.Nat.{ℕ}
-use native.Mathlib.Omega.{arith}
 use lib.ListN.{length}
 use lib.IntN.{ℤ}
 use borrow.Author.Tests.{eq-eqb, ne_eqb}
@@ -33,9 +32,6 @@ returns-then-weights-table c =
     let a = c.args in
     let other = ap not (ne_eqb (length a.weights.now) a.table.n c.if-weights-table.true) in
     returned_refused a.out.now (rule_broken 104 [] (record_with a.table a.out.now a.weights.now a.threshold) other) (back w64 c.refusal.type_inv ∙ c.refusal.ensures)
-
-pub gate_with-gate-requires : goal.gate_with-gate-requires
-gate_with-gate-requires c = omega arith
 
 pub written_length-requires : goal.written_length-requires
 written_length-requires c =

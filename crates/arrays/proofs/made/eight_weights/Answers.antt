@@ -14,14 +14,11 @@ use Rattle.arrays.proofs.made.eight_weights.Goals as goal
 pub loop-place-init : goal.loop-place-init
 loop-place-init c = (omega arith, filled_none _ _)
 
-pub bounds-own-place : goal.bounds-own-place
-bounds-own-place c = omega arith
-
 pub loop-place-preserved : goal.loop-place-preserved
 loop-place-preserved c =
     let weight = get_or c.args.weights.now c.loop-place.place (pos 0) in
     let held : to_z w32 (of_z w32 weight) ≡ weight = search rules in
-    (omega arith, filled_more _ (replicate 8 (pos 0)) c.loop-place.place (bounds-own-place c) c.loop-place.invariant.1 held)
+    (omega arith, filled_more _ (replicate 8 (pos 0)) c.loop-place.place (omega arith) c.loop-place.invariant.1 held)
 
 pub returns : goal.returns
 returns c =

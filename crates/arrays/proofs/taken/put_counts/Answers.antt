@@ -41,9 +41,6 @@ loop-row-init c = (omega arith, filled_none _ _, refl)
 pub bounds-own-row : goal.bounds-own-row
 bounds-own-row c = omega (arith, few c.args.table _ c.requires c.row_count-rows.ensures)
 
-pub bounds-counts-row : goal.bounds-counts-row
-bounds-counts-row c = omega (arith, c.loop-row.invariant.2, c.if-counts-rows.false)
-
 pub loop-row-preserved : goal.loop-row-preserved
 loop-row-preserved c = (
   omega arith,
@@ -53,9 +50,6 @@ loop-row-preserved c = (
 
 pub overflow_cast-result : goal.overflow_cast-result
 overflow_cast-result c = omega (arith, few c.args.table _ c.requires c.row_count-rows.ensures)
-
-pub shape_of-counts : goal.shape_of-counts
-shape_of-counts c = c.loop-row.invariant.2
 
 pub returns : goal.returns
 returns c =

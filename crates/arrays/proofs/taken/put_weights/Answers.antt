@@ -31,12 +31,6 @@ returns-then-weights-n c =
 pub loop-place-init : goal.loop-place-init
 loop-place-init c = (omega arith, filled_none _ _, refl)
 
-pub bounds-own-place : goal.bounds-own-place
-bounds-own-place c = omega (arith, c.requires)
-
-pub bounds-weights-place : goal.bounds-weights-place
-bounds-weights-place c = omega (arith, c.loop-place.invariant.2, c.if-weights-n.false)
-
 pub loop-place-preserved : goal.loop-place-preserved
 loop-place-preserved c =
     let weight = get_or c.args.gate.weights c.loop-place.place (pos 0) in
@@ -45,12 +39,6 @@ loop-place-preserved c =
       filled_more _ c.args.weights.now c.loop-place.place (omega (arith, c.if-weights-n.false)) c.loop-place.invariant.1 held,
       simp length-set c.loop-place.invariant.2,
     )
-
-pub overflow_cast-result : goal.overflow_cast-result
-overflow_cast-result c = omega (arith, c.requires)
-
-pub shape_of-weights : goal.shape_of-weights
-shape_of-weights c = c.loop-place.invariant.2
 
 pub returns : goal.returns
 returns c =

@@ -13,7 +13,7 @@ use Rattle.job.specs.declared.job.Job.{Job}
 use Rattle.handed.specs.Handed.{Handed, taken_after}
 use Rattle.requests.proofs.TakenLaws.{read_few}
 use Rattle.findings.specs.Findings.{gate_found}
-use Rattle.found_within.proofs.JobLaws.{of_job_lem, of_none}
+use Rattle.found_within.proofs.JobLaws.{of_table_lem, of_job_lem, of_none}
 use Rattle.findings.proofs.FindingLaws.{gate_as, gate_refused}
 use Rattle.found_within.proofs.found.find_gate.Goals as goal
 

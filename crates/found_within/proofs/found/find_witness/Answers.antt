@@ -13,7 +13,7 @@ use Rattle.handed.specs.Handed.{Handed, taken_after}
 use Rattle.handed.proofs.HandedLaws.{handed_as, handed_refused}
 use Rattle.requests.proofs.TakenLaws.{read_few}
 use Rattle.findings.specs.Findings.{counts_found}
-use Rattle.found_within.proofs.JobLaws.{of_job_lem, of_none}
+use Rattle.found_within.proofs.JobLaws.{of_table_lem, of_job_lem, of_none}
 use Rattle.found_within.proofs.found.find_witness.Goals as goal
 
 -- what comes after the job

@@ -31,12 +31,6 @@ returns-in_default c =
     back w64 c.not_taken.type_inv ∙ c.not_taken.ensures ∙ ap as_result other
 
 -- a job
-pub overflow_cast-result : goal.overflow_cast-result
-overflow_cast-result c =
-    let k = c.read-given.result.job.state.k in
-    let small : Fits w32 k = search rules in
-    omega (arith, small.fits)
-
 pub returns : goal.returns
 returns c =
     let k = c.read-given.result.job.state.k in

@@ -20,7 +20,7 @@ abbrev part : Read → List ℕ
 part r = counts_of r.table r.witness
 
 abbrev after : List ℕ → List ℕ → Answered (List ℕ)
-after counts counts = fitted (length counts) counts
+after out counts = fitted (length out) counts
 
 -- another kind, or a refusal
 pub returns-in_default : goal.returns-in_default

@@ -68,9 +68,6 @@ pub word_bytes-cares-requires : goal.word_bytes-cares-requires
 word_bytes-cares-requires c =
     (c.if-inputs-gt8.false, ltb-false (length c.args.cares.now) (word_count c.args.inputs) (sym c.few_words-2.ensures ∙ c.if-few_words-2.false))
 
-pub put_table_record-requires : goal.put_table_record-requires
-put_table_record-requires c = c.if-inputs-gt8.false
-
 pub returns : goal.returns
 returns c =
     let n = c.args.inputs in
