@@ -1,3 +1,4 @@
 // Tables as hex digits, made into records.
 #![tactic(auto)]
+
 pub mod digits;

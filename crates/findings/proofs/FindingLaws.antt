@@ -4,9 +4,10 @@ use mathlib.Core.Path.{◌≡◌, refl, ◌∙◌, ap, subst}
 use mathlib.Core.Bool.{Bool, true, false}
 use mathlib.Core.List.{List}
 use Prim.Native.Nat.{ℕ}
-use lib.IntN.{ℤ, pos, neg_ℤ}
-use lib.Signed.{◌≤ℤ◌, ◌<ℤ◌}
-use Rattle.numbers.proofs.Int.{integers}
+use native.Mathlib.Omega.{arith}
+use lib.IntN.{ℤ, pos}
+use lib.Signed.{le_z}
+use Rattle.numbers.proofs.Int.{eq_parts, le_z_true, le_z_false}
 use Rattle.types.specs.declared.gate.Gate.{Gate}
 use Rattle.refusal.specs.Refusal.{Answered, answered, refused, refuse_if}
 use Rattle.results.specs.Result.{as_result}
@@ -36,13 +37,13 @@ module _ (old : List ℤ) (held : ℤ) (before : ℕ) where
 -- x goes into what is lent, or is refused with 12; `says` is what is returned of it
 module _ {A : Type 0} (x : A) (says : Answered A → Answered ℕ) {size : ℕ} (fits : says (answered x) ≡ answered size) (short : says (refused 12) ≡ refused 12) (made held : ℕ) where
   -- where it is not below 0, the corrections made are handed over
-  pub sign_answered : (b : Bool) {r : ℤ} → r ≡ as_result (says (refuse_if b 12 (answered x))) → pos 0 ≤ℤ r
+  pub sign_answered : (b : Bool) {r : ℤ} → r ≡ as_result (says (refuse_if b 12 (answered x))) → le_z (pos 0) r ≡ true
       → made ≡ made_after held (with_made made (refuse_if b 12 (answered x)))
-  sign_answered true {r} e h = let below : r ≡ neg_ℤ (pos 12) = e ∙ ap as_result short in absurd (omega integers)
-  sign_answered false e h = refl
+  sign_answered true {r} e t = absurd (omega (arith, le_z_true (pos 0) r t, eq_parts (e ∙ ap as_result short)))
+  sign_answered false e t = refl
 
   -- where it is, the lent number stays
-  pub sign_refused : (b : Bool) {r : ℤ} → r ≡ as_result (says (refuse_if b 12 (answered x))) → r <ℤ pos 0
+  pub sign_refused : (b : Bool) {r : ℤ} → r ≡ as_result (says (refuse_if b 12 (answered x))) → le_z (pos 0) r ≡ false
       → held ≡ made_after held (with_made made (refuse_if b 12 (answered x)))
-  sign_refused true e h = refl
-  sign_refused false {r} e h = let above : r ≡ pos size = e ∙ ap as_result fits in absurd (omega integers)
+  sign_refused true e t = refl
+  sign_refused false {r} e t = absurd (omega (arith, le_z_false (pos 0) r t, eq_parts (e ∙ ap as_result fits)))

@@ -10,7 +10,7 @@ use types::vector::Vector;
 // Stores, for each of the `half` sums from a place on, that sum with one weight more, `half` places further.
 fn double(sums: &mut [i16; 40], from: usize, half: usize, weight: i16)
     requires sums_len { (length sums.old ≡ 40) × (from + (half + half) ≤ 40) }
-    requires by_index { (at : ℕ) → at < half → nat_abs (get_or sums.old (from + at) (pos 0) +ℤ weight) < 2 ^ 15 }
+    requires sums_fit { (at : ℕ) → at < half → nat_abs (get_or sums.old (from + at) (pos 0) +ℤ weight) < 2 ^ 15 }
     ensures { Doubled from half half weight sums.old sums.new }
 {
     let mut at: usize = 0;

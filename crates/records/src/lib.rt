@@ -1,4 +1,5 @@
 // What follows the kind byte of a record, read from a slice, and the end: tables, gates, witnesses and open jobs. A whole record is read in
 // `receiving`.
 #![tactic(auto)]
+
 pub mod read;

@@ -2,6 +2,7 @@
 -- the pairs after the list's length. Assumes nothing.
 use mathlib.Core.Path.{◌≡◌, refl, sym, ◌∙◌, ap, subst}
 use mathlib.Core.Bool.{Bool, true, false, not, ◌&&◌}
+use mathlib.Core.Logic.{◌⊎◌, ⊎_elim}
 use mathlib.Core.List.{List, [], ◌∷◌}
 use Prim.Native.Nat.{ℕ, suc, ◌+◌, ◌-◌, ◌<◌}
 use native.Mathlib.Numerals.{add-one}
@@ -20,6 +21,13 @@ use Rattle.codec.proofs.FieldLaws.{onward_answered, checked_onward, checked_answ
 -- what the code's test gives, whether a number is refused for its range
 abbrev pub Outside : Bool → Bool → Bool → Type 0
 Outside strict fits t = (strict && not fits) ≡ t
+
+pub outside : {strict fits : Bool} → strict ≡ true → fits ≡ false → Outside strict fits true
+outside s f = rw (s, f)
+
+-- ranges are not refused at once, or it is in its range
+pub inside : {strict fits : Bool} → ((strict ≡ true) × (fits ≡ true)) ⊎ (strict ≡ false) → Outside strict fits false
+inside {strict} {fits} = ⊎_elim (λ w. rw (w.0, w.1)) (λ w. rw w)
 
 -- ---- a pair
 

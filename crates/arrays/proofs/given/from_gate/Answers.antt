@@ -1,9 +1,12 @@
 -- `given::from_gate` meets its contract: 104, then what the writer of the record gives. Assumes nothing.
-use mathlib.Core.Path.{◌∙◌, ap}
+use borrow.Author.Rules.{rules}
+use mir.Val.{to_z, of_z}
+use mir.Syntax.{w64, w32}
+use Rattle.numbers.proofs.Int.{back}
+use mathlib.Core.Path.{◌∙◌, ap, ◌≡◌}
 use mathlib.Core.Bool.{not}
 use mathlib.Core.List.{List, []}
 use Prim.Native.Nat.{ℕ}
-use native.Mathlib.Omega.{arith}
 use lib.ListN.{length}
 use lib.IntN.{ℤ}
 use borrow.Author.Tests.{eq-eqb, ne_eqb}
@@ -28,10 +31,7 @@ pub returns-then-weights-table : goal.returns-then-weights-table
 returns-then-weights-table c =
     let a = c.args in
     let other = ap not (ne_eqb (length a.weights.now) a.table.n c.if-weights-table.true) in
-    returned_refused a.out.now (rule_broken 104 [] (record_with a.table a.out.now a.weights.now a.threshold) other) c.refusal.ensures
-
-pub gate_with-gate-requires : goal.gate_with-gate-requires
-gate_with-gate-requires c = omega arith
+    returned_refused a.out.now (rule_broken 104 [] (record_with a.table a.out.now a.weights.now a.threshold) other) (back w64 c.refusal.type_inv ∙ c.refusal.ensures)
 
 pub written_length-requires : goal.written_length-requires
 written_length-requires c =
@@ -42,5 +42,7 @@ pub returns : goal.returns
 returns c =
     let a = c.args in
     let right = ap not (eq-eqb (length a.weights.now) a.table.n c.if-weights-table.false) in
-    returned_as a.out.now (ap (record_of a.table a.out.now) c.gate_with-gate.ensures ∙ rule_kept 104 [] (record_with a.table a.out.now a.weights.now a.threshold) right)
-    (returned_written (record_of a.table a.out.now c.gate_with-gate.result) a.out.now c.write_gate-answer.ensures c.written_length.ensures)
+    let held : to_z w32 (of_z w32 a.threshold) ≡ a.threshold = search rules in
+    let is = c.gate_with-gate.ensures ∙ ap (gate_with a.table a.weights.now) held in
+    returned_as a.out.now (ap (record_of a.table a.out.now) is ∙ rule_kept 104 [] (record_with a.table a.out.now a.weights.now a.threshold) right)
+    (returned_written (record_of a.table a.out.now c.gate_with-gate.result) a.out.now c.write_gate-answer.ensures (back w64 c.written_length.type_inv ∙ c.written_length.ensures))

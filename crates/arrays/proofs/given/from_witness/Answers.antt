@@ -1,4 +1,6 @@
 -- `given::from_witness` meets its contract: 104, then what the writer of the record gives. Assumes nothing.
+use mir.Syntax.{w64}
+use Rattle.numbers.proofs.Int.{back}
 use mathlib.Core.Path.{sym, ◌∙◌, ap}
 use mathlib.Core.Bool.{not}
 use mathlib.Core.List.{List, []}
@@ -29,7 +31,7 @@ pub returns-then-counts-row_count : goal.returns-then-counts-row_count
 returns-then-counts-row_count c =
     let a = c.args in
     let other = ap not (ne_eqb (length a.counts.now) (rows a.table) (λ e. c.if-counts-row_count.true (e ∙ sym c.row_count.ensures))) in
-    returned_refused a.out.now (rule_broken 104 [] (record_with a.table a.out.now a.counts.now) other) c.refusal.ensures
+    returned_refused a.out.now (rule_broken 104 [] (record_with a.table a.out.now a.counts.now) other) (back w64 c.refusal.type_inv ∙ c.refusal.ensures)
 
 pub witness_with-witness-requires : goal.witness_with-witness-requires
 witness_with-witness-requires c = omega (arith, c.if-counts-row_count.false, c.row_count.ensures, rows_le c.requires)
@@ -44,4 +46,4 @@ returns c =
     let a = c.args in
     let right = ap not (eq-eqb (length a.counts.now) (rows a.table) (c.if-counts-row_count.false ∙ c.row_count.ensures)) in
     returned_as a.out.now (ap (record_of a.table a.out.now) c.witness_with-witness.ensures ∙ rule_kept 104 [] (record_with a.table a.out.now a.counts.now) right)
-    (returned_written (record_of a.table a.out.now c.witness_with-witness.result) a.out.now c.write_witness-answer.ensures c.written_length.ensures)
+    (returned_written (record_of a.table a.out.now c.witness_with-witness.result) a.out.now c.write_witness-answer.ensures (back w64 c.written_length.type_inv ∙ c.written_length.ensures))

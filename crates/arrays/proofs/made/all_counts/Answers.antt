@@ -11,11 +11,8 @@ use Rattle.arrays.proofs.made.all_counts.Goals as goal
 pub loop-row-init : goal.loop-row-init
 loop-row-init c = (omega arith, filled_none _ _)
 
-pub bounds-own-row : goal.bounds-own-row
-bounds-own-row c = omega arith
-
 pub loop-row-preserved : goal.loop-row-preserved
-loop-row-preserved c = (omega arith, filled_more _ (replicate 256 0) c.loop-row.row (bounds-own-row c) c.loop-row.invariant.1 refl)
+loop-row-preserved c = (omega arith, filled_more _ (replicate 256 0) c.loop-row.row (omega arith) c.loop-row.invariant.1 refl)
 
 pub returns : goal.returns
 returns c =

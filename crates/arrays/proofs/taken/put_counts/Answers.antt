@@ -1,5 +1,10 @@
 -- `taken::put_counts` meets its contract. The loop's invariant: the counts of the rows below `row` are copied into the lent array, which is as
 -- long as it was. The measure is what is left of the rows. Assumes nothing.
+use lib.IntN.{pos}
+use mir.Facts.{to_z_pos}
+use mir.Val.{to_z}
+use mir.Syntax.{w64}
+use Rattle.numbers.proofs.Int.{back}
 use mathlib.Core.Path.{◌≡◌, refl, sym, ◌∙◌, ap}
 use Prim.Native.Nat.{ℕ, ◌≤◌}
 use native.Mathlib.Omega.{arith}
@@ -28,7 +33,7 @@ returns-then-counts-rows c =
     let t = c.args.table in
     let own = c.args.witness.counts in
     let size : length own ≡ 256 = search rules in
-    returned_short c.args.counts.now (take (rows t) own) (long t own _ c.requires size c.row_count-rows.ensures) c.if-counts-rows.true c.refusal.ensures
+    returned_short c.args.counts.now (take (rows t) own) (long t own _ c.requires size c.row_count-rows.ensures) c.if-counts-rows.true (back w64 c.refusal.type_inv ∙ c.refusal.ensures)
 
 pub loop-row-init : goal.loop-row-init
 loop-row-init c = (omega arith, filled_none _ _, refl)
@@ -36,22 +41,15 @@ loop-row-init c = (omega arith, filled_none _ _, refl)
 pub bounds-own-row : goal.bounds-own-row
 bounds-own-row c = omega (arith, few c.args.table _ c.requires c.row_count-rows.ensures)
 
-pub bounds-counts-row : goal.bounds-counts-row
-bounds-counts-row c = omega (arith, c.loop-row.invariant.2, c.if-counts-rows.false)
-
 pub loop-row-preserved : goal.loop-row-preserved
-loop-row-preserved c =
-    (
-      omega arith,
-      filled_more _ c.args.counts.now c.loop-row.row (omega (arith, c.if-counts-rows.false)) c.loop-row.invariant.1 refl,
-      simp length-set c.loop-row.invariant.2,
-    )
+loop-row-preserved c = (
+  omega arith,
+  filled_more _ c.args.counts.now c.loop-row.row (omega (arith, c.if-counts-rows.false)) c.loop-row.invariant.1 refl,
+  simp length-set c.loop-row.invariant.2,
+)
 
 pub overflow_cast-result : goal.overflow_cast-result
 overflow_cast-result c = omega (arith, few c.args.table _ c.requires c.row_count-rows.ensures)
-
-pub shape_of-counts : goal.shape_of-counts
-shape_of-counts c = c.loop-row.invariant.2
 
 pub returns : goal.returns
 returns c =
@@ -60,7 +58,10 @@ returns c =
     let old = c.args.counts.now in
     let size : length own ≡ 256 = search rules in
     let all : c.loop-row.row ≡ rows t = omega (arith, c.row_count-rows.ensures) in
+    let value : to_z w64 c.row_count-rows.result ≡ pos c.row_count-rows.result = to_z_pos w64 (omega (arith, few t _ c.requires c.row_count-rows.ensures)) in
+    let (r, b) =
     returned_bytes old (take (rows t) own) (long t own _ c.requires size c.row_count-rows.ensures) c.if-counts-rows.false
     (c.loop-row.invariant.1
     ∙ ap (copied {A = ℕ} 0 own old) all
-    ∙ copied_written {A = ℕ} 0 own old (rows t) (omega (arith, size, rows_le c.requires)))
+    ∙ copied_written {A = ℕ} 0 own old (rows t) (omega (arith, size, rows_le c.requires))) in
+    (value ∙ r, b)

@@ -1,9 +1,13 @@
 -- `taken::put_weights` meets its contract. The loop's invariant: the weights below `place` are copied into the lent array, which is as long as
 -- it was. The measure is what is left of them. Assumes nothing.
+use mir.Facts.{to_z_pos}
+use mir.Val.{to_z, of_z}
+use mir.Syntax.{w64, w32}
+use Rattle.numbers.proofs.Int.{back}
 use mathlib.Core.Path.{◌≡◌, refl, ◌∙◌, ap}
 use Prim.Native.Nat.{◌≤◌}
 use native.Mathlib.Omega.{arith}
-use lib.ListN.{length, length-set}
+use lib.ListN.{length, length-set, get_or}
 use lib.Seq.{length-take-le}
 use lib.IntN.{pos}
 use borrow.Author.Rules.{rules}
@@ -22,30 +26,19 @@ pub returns-then-weights-n : goal.returns-then-weights-n
 returns-then-weights-n c =
     let g = c.args.gate in
     let size : length g.weights ≡ 8 = search rules in
-    put_short g c.args.weights.now c.args.threshold.now (long g c.requires size) c.if-weights-n.true c.refusal.ensures
+    put_short g c.args.weights.now c.args.threshold.now (long g c.requires size) c.if-weights-n.true (back w64 c.refusal.type_inv ∙ c.refusal.ensures)
 
 pub loop-place-init : goal.loop-place-init
 loop-place-init c = (omega arith, filled_none _ _, refl)
 
-pub bounds-own-place : goal.bounds-own-place
-bounds-own-place c = omega (arith, c.requires)
-
-pub bounds-weights-place : goal.bounds-weights-place
-bounds-weights-place c = omega (arith, c.loop-place.invariant.2, c.if-weights-n.false)
-
 pub loop-place-preserved : goal.loop-place-preserved
 loop-place-preserved c =
-    (
+    let weight = get_or c.args.gate.weights c.loop-place.place (pos 0) in
+    let held : to_z w32 (of_z w32 weight) ≡ weight = search rules in (
       omega arith,
-      filled_more _ c.args.weights.now c.loop-place.place (omega (arith, c.if-weights-n.false)) c.loop-place.invariant.1 refl,
+      filled_more _ c.args.weights.now c.loop-place.place (omega (arith, c.if-weights-n.false)) c.loop-place.invariant.1 held,
       simp length-set c.loop-place.invariant.2,
     )
-
-pub overflow_cast-result : goal.overflow_cast-result
-overflow_cast-result c = omega (arith, c.requires)
-
-pub shape_of-weights : goal.shape_of-weights
-shape_of-weights c = c.loop-place.invariant.2
 
 pub returns : goal.returns
 returns c =
@@ -55,4 +48,7 @@ returns c =
     let all : c.loop-place.place ≡ g.n = omega arith in
     let stands =
     c.loop-place.invariant.1 ∙ ap (copied (pos 0) g.weights old) all ∙ copied_written (pos 0) g.weights old g.n (omega (arith, size, c.requires)) in
-    put_whole g old c.args.threshold.now (long g c.requires size) c.if-weights-n.false stands
+    let value : to_z w64 g.n ≡ pos g.n = to_z_pos w64 (omega (arith, c.requires)) in
+    let held : to_z w32 (of_z w32 g.threshold) ≡ g.threshold = search rules in
+    let ((r, b), t) = put_whole g old c.args.threshold.now (long g c.requires size) c.if-weights-n.false stands in
+    ((value ∙ r, b), held ∙ t)

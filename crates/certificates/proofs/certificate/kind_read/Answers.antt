@@ -4,7 +4,6 @@ use mathlib.Core.Bool.{Bool, true, false, not}
 use Prim.Native.Nat.{ℕ}
 use lib.IntN.{ℤ, pos}
 use mir.Syntax.{w64}
-use borrow.Author.Rules.{rules}
 use Rattle.numbers.proofs.Int.{back}
 use Rattle.table.specs.Table.{is_whole}
 use Rattle.refusal.specs.Refusal.{Answered, answered, and_then}
@@ -41,10 +40,10 @@ pub is_whole-requires : goal.is_whole-requires
 is_whole-requires c = (kept_inputs c.args.given.table c.requires, kept_cares c.args.given.table c.requires)
 
 pub returns-then-is_whole : goal.returns-then-is_whole
-returns-then-is_whole c = ap (kind_of tables) (sym c.if-is_whole.true ∙ c.is_whole.ensures) ∙ known (by_kind (goal.at.returns-then-is_whole c).In-Table-1) c.in-Table.is
+returns-then-is_whole c = ap (kind_of tables) (sym c.if-is_whole.true ∙ c.is_whole.ensures) ∙ known (by_kind (goal.at.returns-then-is_whole c).Start) c.in-Table.is
 
 pub returns-else-is_whole : goal.returns-else-is_whole
-returns-else-is_whole c = ap (kind_of tables) (sym c.if-is_whole.false ∙ c.is_whole.ensures) ∙ known (by_kind (goal.at.returns-else-is_whole c).In-Table-1) c.in-Table.is
+returns-else-is_whole c = ap (kind_of tables) (sym c.if-is_whole.false ∙ c.is_whole.ensures) ∙ known (by_kind (goal.at.returns-else-is_whole c).Start) c.in-Table.is
 
 -- a gate, and a witness
 pub returns-in-Gate : goal.returns-in-Gate
@@ -58,10 +57,10 @@ pub is_whole-requires-in-Job : goal.is_whole-requires-in-Job
 is_whole-requires-in-Job c = (kept_inputs c.args.given.table c.requires, kept_cares c.args.given.table c.requires)
 
 pub returns-then-is_whole-2 : goal.returns-then-is_whole-2
-returns-then-is_whole-2 c = ap (kind_of jobs) (sym c.if-is_whole-2.true ∙ c.is_whole-in-Job.ensures) ∙ known (by_kind (goal.at.returns-then-is_whole-2 c).In-Job-1) c.in-Job.is
+returns-then-is_whole-2 c = ap (kind_of jobs) (sym c.if-is_whole-2.true ∙ c.is_whole-in-Job.ensures) ∙ known (by_kind (goal.at.returns-then-is_whole-2 c).Start) c.in-Job.is
 
 pub returns-else-is_whole-2 : goal.returns-else-is_whole-2
-returns-else-is_whole-2 c = ap (kind_of jobs) (sym c.if-is_whole-2.false ∙ c.is_whole-in-Job.ensures) ∙ known (by_kind (goal.at.returns-else-is_whole-2 c).In-Job-1) c.in-Job.is
+returns-else-is_whole-2 c = ap (kind_of jobs) (sym c.if-is_whole-2.false ∙ c.is_whole-in-Job.ensures) ∙ known (by_kind (goal.at.returns-else-is_whole-2 c).Start) c.in-Job.is
 
 -- a refusal
 pub returns-in-Refused : goal.returns-in-Refused

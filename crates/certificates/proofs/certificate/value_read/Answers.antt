@@ -3,7 +3,6 @@ use mathlib.Core.Path.{◌∙◌, ap}
 use mathlib.Core.List.{[], ◌∷◌}
 use Prim.Native.Nat.{ℕ}
 use mir.Syntax.{w64}
-use borrow.Author.Rules.{rules}
 use Rattle.numbers.proofs.Int.{back}
 use Rattle.refusal.specs.Refusal.{Answered}
 use Rattle.cell.specs.Calls.{table_value, gate_value}
@@ -16,14 +15,14 @@ use Rattle.certificates.proofs.certificate.value_read.Goals as goal
 use Rattle.certificates.proofs.certificate.value_read.Goals.{Start}
 
 -- the two values, and the call by the kind
-abbrev of-table : Start → Answered ℕ
-of-table s = said (table_value s.args.given.table s.args.row)
+abbrev of_table : Start → Answered ℕ
+of_table s = said (table_value s.args.given.table s.args.row)
 
-abbrev of-gate : Start → Answered ℕ
-of-gate s = said (gate_value s.args.given.gate s.args.row)
+abbrev of_gate : Start → Answered ℕ
+of_gate s = said (gate_value s.args.given.gate s.args.row)
 
 abbrev by_kind : Start → Kind → Answered ℕ
-by_kind s kind = said_of kind (case tables (of-table s) ∷ case gates (of-gate s) ∷ [])
+by_kind s kind = said_of kind (case tables (of_table s) ∷ case gates (of_gate s) ∷ [])
 
 -- a table
 pub returns-in-Table : goal.returns-in-Table
@@ -31,7 +30,7 @@ unfolding case_of
 returns-in-Table c =
     let a = c.args in
     let said = answer_result (table_value a.given.table a.row) c.yes_or_no.ensures c.table_value.ensures in
-    back w64 c.yes_or_no.type_inv ∙ said ∙ known (by_kind (goal.at.returns-in-Table c).In-Table-1) c.in-Table.is
+    back w64 c.yes_or_no.type_inv ∙ said ∙ known (by_kind (goal.at.returns-in-Table c).Start) c.in-Table.is
 
 -- a gate
 pub returns-in-Gate : goal.returns-in-Gate
@@ -39,10 +38,10 @@ unfolding case_of
 returns-in-Gate c =
     let a = c.args in
     let said = answer_result (gate_value a.given.gate a.row) c.yes_or_no-in-Gate.ensures c.gate_value.ensures in
-    back w64 c.yes_or_no-in-Gate.type_inv ∙ said ∙ known (by_kind (goal.at.returns-in-Gate c).In-Gate-1) c.in-Gate.is
+    back w64 c.yes_or_no-in-Gate.type_inv ∙ said ∙ known (by_kind (goal.at.returns-in-Gate c).Start) c.in-Gate.is
 
 -- another kind, or a refusal
 pub returns-in_default : goal.returns-in_default
 returns-in_default c =
-    let other = no_value (of-table (goal.at.returns-in_default c).Start) (of-gate (goal.at.returns-in_default c).Start) c.args.given.kind c.in_default.in_default-own.keys3 in
+    let other = no_value (of_table (goal.at.returns-in_default c).Start) (of_gate (goal.at.returns-in_default c).Start) c.args.given.kind c.in_default.not-Table c.in_default.not-Gate in
     back w64 c.not_taken.type_inv ∙ c.not_taken.ensures ∙ ap as_result other

@@ -35,17 +35,11 @@ high_is digits at high e =
     let place : length digits - 1 - 2 * at - 1 ≡ length digits - 1 - (2 * at + 1) = omega arith in
     e ∙ ap (λ (i : ℕ). digit_value (get_or digits i 0)) place
 
-pub overflow_sub-place : goal.overflow_sub-place
-overflow_sub-place c = omega (arith, c.requires.2)
-
 pub overflow_mul-place : goal.overflow_mul-place
 overflow_mul-place c = let a = c.args in omega (arith, places a.digits.now a.n a.at c.requires.1 c.requires.2 c.requires.3)
 
 pub overflow_sub-place-2 : goal.overflow_sub-place-2
 overflow_sub-place-2 c = let a = c.args in places a.digits.now a.n a.at c.requires.1 c.requires.2 c.requires.3
-
-pub bounds-digits-place : goal.bounds-digits-place
-bounds-digits-place c = omega (arith, c.requires.2, c.requires.1)
 
 pub returns-then-n-lt3 : goal.returns-then-n-lt3
 returns-then-n-lt3 c =
@@ -57,9 +51,6 @@ returns-then-n-lt3 c =
 pub overflow_sub-place-3 : goal.overflow_sub-place-3
 overflow_sub-place-3 c =
     let a = c.args in omega (arith, pairs a.digits.now a.n a.at c.requires.1 c.requires.2 c.requires.3 c.if-n-lt3.false)
-
-pub bounds-digits-place-2 : goal.bounds-digits-place-2
-bounds-digits-place-2 c = omega (arith, c.requires.2, c.requires.1)
 
 pub overflow_mul-high : goal.overflow_mul-high
 overflow_mul-high c =

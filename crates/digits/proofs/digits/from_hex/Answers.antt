@@ -1,4 +1,6 @@
 -- `digits::from_hex` meets its contract: its rules in their order, then the table's record. Assumes nothing.
+use mir.Syntax.{w64}
+use Rattle.numbers.proofs.Int.{back}
 use mathlib.Core.Path.{◌≡◌, refl, sym, ◌∙◌, ap}
 use mathlib.Core.Bool.{true, not}
 use mathlib.Core.List.{List, [], ◌∷◌}
@@ -41,7 +43,7 @@ returns-then-inputs-gt8 c =
     let digits = c.args.digits.now in
     let out = c.args.out.now in
     let broken = first_broken_refused (rules_of n digits) (after n digits out) 2 (here (lt-ltb 8 n c.if-inputs-gt8.true) refl) in
-    returned_refused out (sym broken) c.refusal.ensures
+    returned_refused out (sym broken) (back w64 c.refusal.type_inv ∙ c.refusal.ensures)
 
 pub overflow_add-row_count : goal.overflow_add-row_count
 overflow_add-row_count c = omega (arith, rows_le c.if-inputs-gt8.false)
@@ -53,7 +55,7 @@ returns-then-digits-row_count c =
     let out = c.args.out.now in
     let other = ap not (ne_eqb (length digits) (digit_count n) (uncounted n _ digits c.row_count.ensures c.if-digits-row_count.true)) in
     let broken = first_broken_refused (rules_of n digits) (after n digits out) 101 (later (le-ltb 8 n c.if-inputs-gt8.false) (here other refl)) in
-    returned_refused out (sym broken) c.refusal-then-digits-row_count.ensures
+    returned_refused out (sym broken) (back w64 c.refusal-then-digits-row_count.type_inv ∙ c.refusal-then-digits-row_count.ensures)
 
 pub returns-then-not-all_digits : goal.returns-then-not-all_digits
 returns-then-not-all_digits c =
@@ -63,15 +65,15 @@ returns-then-not-all_digits c =
     let right = ap not (eq-eqb (length digits) (digit_count n) (counted n _ digits c.row_count.ensures c.if-digits-row_count.false)) in
     let wrong = ap not (sym c.all_digits.ensures ∙ c.if-not-all_digits.true) in
     let broken = first_broken_refused (rules_of n digits) (after n digits out) 102 (later (le-ltb 8 n c.if-inputs-gt8.false) (later right (here wrong refl))) in
-    returned_refused out (sym broken) c.refusal-then-not-all_digits.ensures
+    returned_refused out (sym broken) (back w64 c.refusal-then-not-all_digits.type_inv ∙ c.refusal-then-not-all_digits.ensures)
 
 -- each character is a digit
 pub digit_bytes-requires : goal.digit_bytes-requires
 digit_bytes-requires c = (
-      c.if-inputs-gt8.false,
-      counted c.args.inputs _ c.args.digits.now c.row_count.ensures c.if-digits-row_count.false,
-      sym c.all_digits.ensures ∙ c.if-not-all_digits.false,
-    )
+  c.if-inputs-gt8.false,
+  counted c.args.inputs _ c.args.digits.now c.row_count.ensures c.if-digits-row_count.false,
+  sym c.all_digits.ensures ∙ c.if-not-all_digits.false,
+)
 
 pub put_table_record-requires : goal.put_table_record-requires
 put_table_record-requires c = omega (arith, ap (λ (t : Table). t.n) c.whole_table.ensures)
@@ -88,4 +90,4 @@ returns c =
     -- the table is the one of the digits
     let made : c.whole_table.result ≡ table_with n (digit_row digits) = c.whole_table.ensures ∙ ap (whole_table n) c.digit_bytes.ensures in
     let record_is = ap (λ (t : Table). write_record (of_table t) (length out)) made ∙ made_written n (digit_row digits) few (length out) in
-    returned_as out (record_is ∙ sym (none_broken_answered (rules_of n digits) (after n digits out) kept)) c.put_table_record.ensures
+    returned_as out (record_is ∙ sym (none_broken_answered (rules_of n digits) (after n digits out) kept)) (back w64 c.put_table_record.type_inv ∙ c.put_table_record.ensures.0, c.put_table_record.ensures.1)

@@ -1,5 +1,7 @@
 -- `carried::counts_after` meets its contract: the job after the carry-on keeps its rules, and the counts of its witness are put into what is lent.
 -- Assumes nothing.
+use mir.Syntax.{w64}
+use Rattle.numbers.proofs.Int.{back}
 use mathlib.Core.Path.{◌≡◌, refl, sym, ◌∙◌, ap}
 use mathlib.Core.Bool.{true, not}
 use mathlib.Core.List.{[]}
@@ -29,7 +31,7 @@ returns-in-Refused c =
     let a = c.args in
     let e = carried_refused a.job (carry_on a.job a.budget) c.carry_on-carried.ensures c.in-Refused.is in
     handed_refused a.counts.now a.made.now
-    (ap (λ (x : Answered Job). and_then x (taken_with (counts_found (length a.counts.now)) a.job)) e) c.refusal.ensures
+    (ap (λ (x : Answered Job). and_then x (taken_with (counts_found (length a.counts.now)) a.job)) e) (back w64 c.refusal.type_inv ∙ c.refusal.ensures)
 
 -- ---- no witness
 -- what is taken of the next job is what the call comes to
@@ -41,7 +43,7 @@ returns-then-not-has_witness c =
     let handed = carried_handed a.job (carry_on a.job a.budget) c.carry_on-carried.ensures (counts_found room) c.in_default.is in
     let none = ap not (sym c.has_witness.ensures ∙ c.if-not-has_witness.true) in
     let broken = rule_broken 105 [] (fitted room (counts_of next.job.table (witness_of next.job))) none in
-    handed_refused a.counts.now a.made.now (ap (with_made next.made) broken ∙ handed) c.refusal-then-not-has_witness.ensures
+    handed_refused a.counts.now a.made.now (ap (with_made next.made) broken ∙ handed) (back w64 c.refusal-then-not-has_witness.type_inv ∙ c.refusal-then-not-has_witness.ensures)
 
 -- ---- its witness
 pub put_counts-rows-requires : goal.put_counts-rows-requires
@@ -69,9 +71,10 @@ returns-then-rows-ge0 c =
     let handed = carried_handed a.job (carry_on a.job a.budget) c.carry_on-carried.ensures (counts_found room) c.in_default.is in
     let all = whole a.job next.job a.budget next.made room (sym c.has_witness.ensures ∙ c.if-not-has_witness.false) handed in
     let same = ap (λ (w : Witness). fitted room (counts_of next.job.table w)) c.witness_of.ensures in
-    let numbers = returned_as old same c.put_counts-rows.ensures in
-    let over = sign_answered counts measured refl refl next.made a.made.now (ltb room (length counts)) numbers.0 c.if-rows-ge0.true in
-    handed_as old a.made.now all (handed_with (fitted room counts) next.made old a.made.now numbers over)
+    let own = returned_as old same c.put_counts-rows.ensures in
+    let value = back w64 c.put_counts-rows.type_inv ∙ own.0 in
+    let over = sign_answered counts measured refl refl next.made a.made.now (ltb room (length counts)) value c.if-rows-ge0.true in
+    handed_as old a.made.now all (handed_with (fitted room counts) next.made old a.made.now (value, own.1) over)
 
 pub returns-else-rows-ge0 : goal.returns-else-rows-ge0
 returns-else-rows-ge0 c =
@@ -83,6 +86,7 @@ returns-else-rows-ge0 c =
     let handed = carried_handed a.job (carry_on a.job a.budget) c.carry_on-carried.ensures (counts_found room) c.in_default.is in
     let all = whole a.job next.job a.budget next.made room (sym c.has_witness.ensures ∙ c.if-not-has_witness.false) handed in
     let same = ap (λ (w : Witness). fitted room (counts_of next.job.table w)) c.witness_of.ensures in
-    let numbers = returned_as old same c.put_counts-rows.ensures in
-    let stays = sign_refused counts measured refl refl next.made a.made.now (ltb room (length counts)) numbers.0 c.if-rows-ge0.false in
-    handed_as old a.made.now all (handed_with (fitted room counts) next.made old a.made.now numbers stays)
+    let own = returned_as old same c.put_counts-rows.ensures in
+    let value = back w64 c.put_counts-rows.type_inv ∙ own.0 in
+    let stays = sign_refused counts measured refl refl next.made a.made.now (ltb room (length counts)) value c.if-rows-ge0.false in
+    handed_as old a.made.now all (handed_with (fitted room counts) next.made old a.made.now (value, own.1) stays)

@@ -1,5 +1,7 @@
 -- `carried::gate_after` meets its contract: the job after the carry-on keeps its rules, and the numbers of its gate are put into what is lent.
 -- Assumes nothing.
+use mir.Syntax.{w64}
+use Rattle.numbers.proofs.Int.{back}
 use mathlib.Core.Path.{◌≡◌, refl, sym, ◌∙◌, ap}
 use mathlib.Core.Bool.{true, not}
 use mathlib.Core.List.{[]}
@@ -28,7 +30,7 @@ returns-in-Refused c =
     let a = c.args in
     let e = carried_refused a.job (carry_on a.job a.budget) c.carry_on-carried.ensures c.in-Refused.is in
     gate_refused a.weights.now a.threshold.now a.made.now
-    (ap (λ (x : Answered Job). and_then x (taken_with (gate_found (length a.weights.now)) a.job)) e) c.refusal.ensures
+    (ap (λ (x : Answered Job). and_then x (taken_with (gate_found (length a.weights.now)) a.job)) e) (back w64 c.refusal.type_inv ∙ c.refusal.ensures)
 
 -- ---- no gate
 -- what is taken of the next job is what the call comes to
@@ -40,7 +42,7 @@ returns-then-not-has_gate c =
     let handed = carried_handed a.job (carry_on a.job a.budget) c.carry_on-carried.ensures (gate_found room) c.in_default.is in
     let none = ap not (sym c.has_gate.ensures ∙ c.if-not-has_gate.true) in
     let open_yet = rule_broken 105 [] (fitted_gate room (gate_of next.job)) none in
-    gate_refused a.weights.now a.threshold.now a.made.now (ap (with_made next.made) open_yet ∙ handed) c.refusal-then-not-has_gate.ensures
+    gate_refused a.weights.now a.threshold.now a.made.now (ap (with_made next.made) open_yet ∙ handed) (back w64 c.refusal-then-not-has_gate.type_inv ∙ c.refusal-then-not-has_gate.ensures)
 
 -- ---- its gate
 pub put_weights-n-requires : goal.put_weights-n-requires
@@ -71,9 +73,10 @@ returns-then-n-ge0 c =
     let gate = gate_of next.job in
     let handed = carried_handed a.job (carry_on a.job a.budget) c.carry_on-carried.ensures (gate_found room) c.in_default.is in
     let all = whole a.job next.job a.budget next.made room (sym c.has_gate.ensures ∙ c.if-not-has_gate.false) handed in
-    let numbers = put_as old a.threshold.now (ap (fitted_gate room) c.vector_gate.ensures) c.put_weights-n.ensures in
-    let over = sign_answered gate says refl refl next.made a.made.now (ltb room (length (weights_of gate))) numbers.0.0 c.if-n-ge0.true in
-    gate_as old a.threshold.now a.made.now all (gate_with_lem old a.threshold.now a.made.now (fitted_gate room gate) next.made numbers over)
+    let own = put_as old a.threshold.now (ap (fitted_gate room) c.vector_gate.ensures) c.put_weights-n.ensures in
+    let value = back w64 c.put_weights-n.type_inv ∙ own.0.0 in
+    let over = sign_answered gate says refl refl next.made a.made.now (ltb room (length (weights_of gate))) value c.if-n-ge0.true in
+    gate_as old a.threshold.now a.made.now all (gate_with_lem old a.threshold.now a.made.now (fitted_gate room gate) next.made ((value, own.0.1), own.1) over)
 
 pub returns-else-n-ge0 : goal.returns-else-n-ge0
 returns-else-n-ge0 c =
@@ -84,6 +87,7 @@ returns-else-n-ge0 c =
     let gate = gate_of next.job in
     let handed = carried_handed a.job (carry_on a.job a.budget) c.carry_on-carried.ensures (gate_found room) c.in_default.is in
     let all = whole a.job next.job a.budget next.made room (sym c.has_gate.ensures ∙ c.if-not-has_gate.false) handed in
-    let numbers = put_as old a.threshold.now (ap (fitted_gate room) c.vector_gate.ensures) c.put_weights-n.ensures in
-    let stays = sign_refused gate says refl refl next.made a.made.now (ltb room (length (weights_of gate))) numbers.0.0 c.if-n-ge0.false in
-    gate_as old a.threshold.now a.made.now all (gate_with_lem old a.threshold.now a.made.now (fitted_gate room gate) next.made numbers stays)
+    let own = put_as old a.threshold.now (ap (fitted_gate room) c.vector_gate.ensures) c.put_weights-n.ensures in
+    let value = back w64 c.put_weights-n.type_inv ∙ own.0.0 in
+    let stays = sign_refused gate says refl refl next.made a.made.now (ltb room (length (weights_of gate))) value c.if-n-ge0.false in
+    gate_as old a.threshold.now a.made.now all (gate_with_lem old a.threshold.now a.made.now (fitted_gate room gate) next.made ((value, own.0.1), own.1) stays)

@@ -1,5 +1,7 @@
 -- `handed::carry_job` meets its contract: the job after the carry-on keeps its rules, and what it has come to is written. Assumes nothing.
-use mathlib.Core.Path.{ap}
+use mir.Syntax.{w64}
+use Rattle.numbers.proofs.Int.{back}
+use mathlib.Core.Path.{ap, ◌∙◌}
 use lib.ListN.{length}
 use Rattle.refusal.specs.Refusal.{Answered, and_then}
 use Rattle.job.specs.declared.job.Job.{Job}
@@ -16,7 +18,7 @@ returns-in-Refused c =
     let job = c.args.job in
     let old = c.args.out.now in
     let e = carried_refused job (carry_on job c.args.budget) c.carry_on-carried.ensures c.in-Refused.is in
-    handed_refused old c.args.made.now (ap (λ (a : Answered Job). and_then a (handed_back (length old) job)) e) c.refusal.ensures
+    handed_refused old c.args.made.now (ap (λ (a : Answered Job). and_then a (handed_back (length old) job)) e) (back w64 c.refusal.type_inv ∙ c.refusal.ensures)
 
 -- ---- the next job
 -- the call on the job gave it
@@ -32,4 +34,4 @@ returns c =
     let job = c.args.job in
     let old = c.args.out.now in
     let handed = carried_handed job (carry_on job c.args.budget) c.carry_on-carried.ensures (outcome_written (length old)) c.in_default.is in
-    handed_as old c.args.made.now handed c.put_outcome.ensures
+    handed_as old c.args.made.now handed ((back w64 c.put_outcome.type_inv ∙ c.put_outcome.ensures.0.0, c.put_outcome.ensures.0.1), c.put_outcome.ensures.1)

@@ -1,5 +1,10 @@
 -- `handed::put_outcome` meets its contract: the length is at most 2,048, so it is a signed number of 64 bits; the corrections are handed
 -- over where the bytes are. Assumes nothing.
+use lib.IntN.{pos}
+use mir.Facts.{to_z_pos}
+use mir.Val.{to_z}
+use mir.Syntax.{w64}
+use Rattle.numbers.proofs.Int.{back}
 use mathlib.Core.Path.{◌≡◌, sym, ◌∙◌, ap}
 use mathlib.Core.List.{List, [], ◌∷◌}
 use Prim.Native.Nat.{ℕ, ◌≤◌}
@@ -47,8 +52,10 @@ returns-in-Bytes c =
     let job = job_of a.table a.state in
     let call = outcome_written (length a.out.now) job in
     let known = length_known (length a.out.now) job c.requires _ c.write_outcome-answer.ensures.0 c.in-Bytes.is in
+    let few = small (length a.out.now) job c.requires _ c.write_outcome-answer.ensures.0 c.in-Bytes.is in
+    let value : to_z w64 c.in-Bytes.length ≡ pos c.in-Bytes.length = to_z_pos w64 (omega (arith, few)) in
     handed_with call a.corrections a.out.now a.made.now
-    (ap as_result (measured_length call known), c.write_outcome-answer.ensures.1)
+    (value ∙ ap as_result (measured_length call known), c.write_outcome-answer.ensures.1)
     (made_handed call a.corrections a.made.now known)
 
 -- ---- a refusal
@@ -58,4 +65,4 @@ returns-in-Refused c =
     let call = outcome_written (length a.out.now) (job_of a.table a.state) in
     let e = sym c.write_outcome-answer.ensures.0 ∙ c.in-Refused.is in
     let same = ap (λ (x : Answered (List ℕ)). as_result (measured x)) (written_refused call e) in
-    handed_with call a.corrections a.out.now a.made.now (c.refusal.ensures ∙ same, c.write_outcome-answer.ensures.1) (made_held call a.corrections a.made.now e)
+    handed_with call a.corrections a.out.now a.made.now (back w64 c.refusal.type_inv ∙ c.refusal.ensures ∙ same, c.write_outcome-answer.ensures.1) (made_held call a.corrections a.made.now e)

@@ -18,7 +18,7 @@ use Rattle.inputs.proofs.inputs.chow_byte.Goals.{After-word_of-code}
 word_is : (c : After-word_of-code) → let a = c.args in c.word_of-code.result ≡ word (get_or a.q (a.at / 2) (pos 0))
 word_is c =
     let a = c.args in
-    c.word_of-code.ensures ∙ ap word (back w32 {a = get_or a.q (a.at / 2) (pos 0)} c.word_of-arg-1.given)
+    c.word_of-code.ensures ∙ ap word (back w32 {a = get_or a.q (a.at / 2) (pos 0)} (search rules))
 
 pub overflow_cast-result-else-at-eq0 : goal.overflow_cast-result-else-at-eq0
 overflow_cast-result-else-at-eq0 c =

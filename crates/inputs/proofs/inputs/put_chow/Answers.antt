@@ -2,7 +2,7 @@
 -- buffer is as long as it was. The measure is what is left of the sixteen bytes. Assumes nothing.
 use mathlib.Core.Path.{◌≡◌, ◌∙◌}
 use mathlib.Core.List.{List}
-use Prim.Native.Nat.{ℕ, ◌-◌}
+use Prim.Native.Nat.{ℕ}
 use native.Mathlib.Omega.{arith}
 use lib.ListN.{length}
 use lib.IntN.{ℤ}
@@ -11,7 +11,7 @@ use borrow.Author.Rules.{rules}
 use Rattle.numbers.proofs.Int.{back}
 use Rattle.results.proofs.ResultLaws.{returned_short}
 use Rattle.inputs.specs.Inputs.{chow_bytes}
-use Rattle.inputs.proofs.ByteLaws.{chow_count, Stored, stored_none, stored_more, stored_all}
+use Rattle.inputs.proofs.ByteLaws.{chow_count, stored_none, stored_more, stored_all}
 use Rattle.inputs.proofs.inputs.put_chow.Goals as goal
 use Rattle.inputs.proofs.inputs.put_chow.Goals.{Start}
 

@@ -1,17 +1,8 @@
 -- `inputs::put_chow` meets its contract: sixteen bytes fit or are refused. The loop's invariant: the bytes below `at` are stored, and the
 -- buffer is as long as it was. The measure is what is left of the sixteen bytes. Assumes nothing.
-use mathlib.Core.Path.{◌≡◌, ◌∙◌}
-use mathlib.Core.List.{List}
-use Prim.Native.Nat.{ℕ, ◌-◌}
-use native.Mathlib.Omega.{arith}
-use lib.ListN.{length}
-use lib.IntN.{ℤ}
-use mir.Syntax.{w64}
-use borrow.Author.Rules.{rules}
-use Rattle.numbers.proofs.Int.{back}
-use Rattle.results.proofs.ResultLaws.{returned_short}
+use Prim.Native.Nat.{◌-◌}
 use Rattle.inputs.specs.Inputs.{chow_bytes}
-use Rattle.inputs.proofs.ByteLaws.{chow_count, Stored, stored_none, stored_more, stored_all}
+use Rattle.inputs.proofs.ByteLaws.{Stored}
 use Rattle.inputs.proofs.inputs.put_chow.Given as goal
 
 abbrev pub invariant-loop-at : goal.invariant-loop-at

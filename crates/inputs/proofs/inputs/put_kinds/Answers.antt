@@ -2,7 +2,7 @@
 -- buffer is as long as it was. The measure is what is left of the eight places. Assumes nothing.
 use mathlib.Core.Path.{◌≡◌, sym, ◌∙◌}
 use mathlib.Core.List.{List}
-use Prim.Native.Nat.{ℕ, ◌-◌}
+use Prim.Native.Nat.{ℕ}
 use native.Mathlib.Omega.{arith}
 use lib.ListN.{length}
 use mir.Syntax.{w64}
@@ -11,7 +11,7 @@ use Rattle.numbers.proofs.Int.{back}
 use Rattle.types.specs.declared.inputs.Place.{Place}
 use Rattle.results.proofs.ResultLaws.{returned_short}
 use Rattle.inputs.specs.Inputs.{input_bytes}
-use Rattle.inputs.proofs.ByteLaws.{kind_count, kind_at, Stored, stored_none, stored_more, stored_all}
+use Rattle.inputs.proofs.ByteLaws.{kind_count, kind_at, stored_none, stored_more, stored_all}
 use Rattle.inputs.proofs.inputs.put_kinds.Goals as goal
 use Rattle.inputs.proofs.inputs.put_kinds.Goals.{Start}
 
@@ -21,10 +21,10 @@ long places e = kind_count places ∙ e
 
 module _ (c : Start) where
   abbrev bytes : List ℕ
-  bytes = input_bytes c.args.t1
+  bytes = input_bytes c.args.places
 
   count : length bytes ≡ 8
-  count = let eight : length c.args.t1 ≡ 8 = search rules in long c.args.t1 eight
+  count = let eight : length c.args.places ≡ 8 = search rules in long c.args.places eight
 
 pub returns-then-out-lt8 : goal.returns-then-out-lt8
 returns-then-out-lt8 c = returned_short c.args.out.now (bytes (goal.at.returns-then-out-lt8 c).Start) (count (goal.at.returns-then-out-lt8 c).Start) (omega (arith, c.if-out-lt8.true)) (back w64 c.refusal.type_inv ∙ c.refusal.ensures)

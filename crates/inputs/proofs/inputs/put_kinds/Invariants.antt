@@ -1,17 +1,8 @@
 -- `inputs::put_kinds` meets its contract: eight bytes fit or are refused. The loop's invariant: the bytes of the places below `place` are stored, and the
 -- buffer is as long as it was. The measure is what is left of the eight places. Assumes nothing.
-use mathlib.Core.Path.{◌≡◌, sym, ◌∙◌}
-use mathlib.Core.List.{List}
-use Prim.Native.Nat.{ℕ, ◌-◌}
-use native.Mathlib.Omega.{arith}
-use lib.ListN.{length}
-use mir.Syntax.{w64}
-use borrow.Author.Rules.{rules}
-use Rattle.numbers.proofs.Int.{back}
-use Rattle.types.specs.declared.inputs.Place.{Place}
-use Rattle.results.proofs.ResultLaws.{returned_short}
+use Prim.Native.Nat.{◌-◌}
 use Rattle.inputs.specs.Inputs.{input_bytes}
-use Rattle.inputs.proofs.ByteLaws.{kind_count, kind_at, Stored, stored_none, stored_more, stored_all}
+use Rattle.inputs.proofs.ByteLaws.{Stored}
 use Rattle.inputs.proofs.inputs.put_kinds.Given as goal
 
 abbrev pub invariant-loop-place : goal.invariant-loop-place

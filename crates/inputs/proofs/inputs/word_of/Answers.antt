@@ -5,7 +5,6 @@ use Prim.Native.Nat.{ℕ, ◌-◌, ◌/◌, ◌%◌}
 use native.Mathlib.Omega.{arith}
 use lib.IntN.{ℤ, pos, negsuc}
 use mir.Facts.{to_z-of_z}
-use borrow.Author.Rules.{rules}
 use Rattle.codec.specs.Number.{signed_code}
 use Rattle.inputs.specs.Inputs.{word}
 use Rattle.inputs.proofs.inputs.word_of.Goals as goal

@@ -1,27 +1,23 @@
--- `sums::same_sums` meets its contract. The loop's invariant: the sums agree at each place below `at`. The measure is what is left of the
--- places. Assumes nothing.
+-- `sums::same_sums` meets its contract. Assumes nothing.
 use mathlib.Core.Path.{◌≡◌, sym, ◌∙◌, ap}
 use mathlib.Core.Bool.{false}
 use mathlib.Core.List.{List}
-use Prim.Native.Nat.{ℕ, ◌-◌, ◌^◌, ◌≤◌, ◌<◌}
+use Prim.Native.Nat.{ℕ, ◌-◌, ◌≤◌}
 use native.Mathlib.Omega.{arith}
-use borrow.Author.Count.{below_more}
-use borrow.Author.Rules.{rules}
 use lib.Pow.{pow_mono}
 use lib.ListN.{get_or}
 use lib.IntN.{ℤ, pos}
 use mir.Syntax.{w16}
-use mir.Val.{to_z, of_z, SFits}
-use mir.Facts.{to_z-of_z}
+use mir.Val.{of_z}
 use Rattle.numbers.proofs.TestLaws.{not_passed}
 use Rattle.types.specs.declared.vector.Vector.{Vector}
 use Rattle.function.specs.Vector.{same_vector}
 use Rattle.function.proofs.VectorLaws.{same_vector_correct}
 use Rattle.function.proofs.RangeLaws.{in_range_correct}
 use Rattle.lanes.specs.Sums.{vector_sums}
+use Rattle.lanes.specs.Blocks.{blocks_of}
 use Rattle.lanes.proofs.WeightLaws.{sums_same}
 use Rattle.lanes.proofs.sums.same_sums.Goals as goal
-use Rattle.lanes.proofs.sums.same_sums.Goals.{After-block_count-count, In-loop-at}
 
 -- vectors of which a sum differs are not equal
 apart : {x y : List ℤ} (at : ℕ) → (of_z w16 (get_or x at (pos 0)) ≡ of_z w16 (get_or y at (pos 0)) → ⊥)
@@ -34,52 +30,18 @@ apart at differ v s x-is y-is =
 pub returns-then-x-y : goal.returns-then-x-y
 returns-then-x-y c k v s long long-s range range-s = apart 31 c.if-x-y.true v s
 
--- there are at most eight blocks
-blocks_le : (c : After-block_count-count) → c.block_count-count.result ≤ 8
-blocks_le c =
-    let n = c.args.n in
-    let most : 2 ^ (n - 5) ≤ 8 = pow_mono {j = 3} (omega arith) in
-    omega (arith, c.block_count-count.ensures)
-
-pub overflow_add-count : goal.overflow_add-count
-overflow_add-count c = record { fits = omega (arith, blocks_le c) }
-
-pub loop-at-init : goal.loop-at-init
-loop-at-init c = (omega arith, λ i l. absurd (omega arith))
-
--- a place of the loop is one of the 40
-in_sums : (c : In-loop-at) → c.loop-at.at < 40
-in_sums c = omega (arith, blocks_le c.before.before)
-
-pub offset_bounds-x-at : goal.offset_bounds-x-at
-offset_bounds-x-at c = record { fits = omega (arith, in_sums c) }
+-- there are at most eight blocks, so that a place of the loop is one of the 40
+blocks_le : (n : ℕ) → n ≤ 8 → blocks_of n ≤ 8
+blocks_le n h = pow_mono {i = n - 5} {j = 3} (omega arith)
 
 pub bounds-x-at : goal.bounds-x-at
-bounds-x-at c = in_sums c
-
-pub offset_bounds-y-at : goal.offset_bounds-y-at
-offset_bounds-y-at c = record { fits = omega (arith, in_sums (goal.at.offset_bounds-y-at c).In-loop-at) }
+bounds-x-at c = omega (arith, c.block_count-count.ensures, blocks_le c.args.n c.requires)
 
 pub bounds-y-at : goal.bounds-y-at
-bounds-y-at c = in_sums (goal.at.bounds-y-at c).In-loop-at
+bounds-y-at c = omega (arith, c.block_count-count.ensures, blocks_le c.args.n c.requires)
 
 pub returns-then-x-at : goal.returns-then-x-at
 returns-then-x-at c k v s long long-s range range-s = apart c.loop-at.at c.if-x-at.true v s
-
-pub overflow_add-at : goal.overflow_add-at
-overflow_add-at c = record { fits = omega (arith, in_sums (goal.at.overflow_add-at c).In-loop-at) }
-
--- integers of 16 bits are equal where their bits are
-same_bits : {x y : ℤ} → SFits w16 x → SFits w16 y → of_z w16 x ≡ of_z w16 y → x ≡ y
-same_bits f g e = sym (to_z-of_z f) ∙ ap (to_z w16) e ∙ to_z-of_z g
-
-pub loop-at-preserved : goal.loop-at-preserved
-loop-at-preserved c =
-    (
-  omega arith,
-  below_more _ _ c.loop-at.invariant.1
-      (same_bits (record { sfits = c.t18-1.given }) (record { sfits = c.t22-1.given }) c.if-x-at.false),
-)
 
 pub returns : goal.returns
 returns c k v s long long-s range range-s x-is y-is =

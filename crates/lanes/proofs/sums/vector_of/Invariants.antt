@@ -1,22 +1,13 @@
 -- `sums::vector_of` meets its contract. The loop's invariant: the weights below `place` are those of a vector that has the sums. The
 -- measure is the number of places left. Assumes nothing.
-use mathlib.Core.Path.{◌≡◌, refl, sym, ◌∙◌, ap}
+use mathlib.Core.Path.{◌≡◌}
 use mathlib.Core.List.{List}
 use Prim.Native.Nat.{ℕ, ◌-◌, ◌≤◌}
-use native.Mathlib.Omega.{arith}
-use borrow.Author.Rules.{rules}
 use lib.ListN.{get_or, replicate}
-use lib.IntN.{ℤ, pos, ◌-ℤ◌}
-use mir.Syntax.{w16, w32}
-use mir.Val.{SFits}
-use mir.Facts.{to_z-of_z}
-use Rattle.numbers.proofs.Int.{one_part, parts_sub, back}
-use Rattle.numbers.proofs.Widths.{fits_size, size_fits, wide_fits, wide_back}
-use Rattle.numbers.proofs.TabulateLaws.{filled, tabulate_get_d, filled_none, filled_more, filled_all}
+use lib.IntN.{ℤ, pos}
+use Rattle.numbers.proofs.TabulateLaws.{filled}
 use Rattle.types.specs.declared.vector.Vector.{Vector}
-use Rattle.function.proofs.VectorLaws.{vector_eq}
 use Rattle.lanes.specs.Sums.{vector_sums}
-use Rattle.lanes.proofs.WeightLaws.{sums_threshold}
 use Rattle.lanes.proofs.sums.vector_of.Given as goal
 
 -- the weight at a place

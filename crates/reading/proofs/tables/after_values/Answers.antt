@@ -1,7 +1,6 @@
 -- `crate::tables::after_values` meets its contract: care bits follow, or every row is cared for. Assumes nothing.
 use mathlib.Core.Path.{sym, ◌∙◌, ap}
 use mathlib.Core.Bool.{Bool}
-use borrow.Author.Rules.{rules}
 use Rattle.refusal.specs.declared.refusal.Status.TheVariants as Status'
 use Rattle.codec.specs.TableField.{cares_at}
 use Rattle.reading.specs.Fields.{table_field}

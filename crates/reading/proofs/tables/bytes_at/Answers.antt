@@ -1,10 +1,8 @@
 -- `crate::tables::bytes_at` meets its contract. The loop's invariant: the array holds the first `i` bytes from the position on, and zeros
 -- behind them. The measure is what is left of the bytes. Assumes nothing.
 use mathlib.Core.Path.{◌≡◌, ◌∙◌, ap}
-use Prim.Native.Nat.{◌-◌, ◌≤◌}
 use native.Mathlib.Omega.{arith}
 use lib.ListN.{drop, replicate, length-drop}
-use borrow.Author.Rules.{rules}
 use Rattle.reading.proofs.TableLaws.{copied, copied_more, copied_zeros}
 use Rattle.reading.proofs.tables.bytes_at.Goals as goal
 

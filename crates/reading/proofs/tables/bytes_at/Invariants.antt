@@ -1,11 +1,9 @@
 -- `crate::tables::bytes_at` meets its contract. The loop's invariant: the array holds the first `i` bytes from the position on, and zeros
 -- behind them. The measure is what is left of the bytes. Assumes nothing.
-use mathlib.Core.Path.{◌≡◌, ◌∙◌, ap}
+use mathlib.Core.Path.{◌≡◌}
 use Prim.Native.Nat.{◌-◌, ◌≤◌}
-use native.Mathlib.Omega.{arith}
-use lib.ListN.{drop, replicate, length-drop}
-use borrow.Author.Rules.{rules}
-use Rattle.reading.proofs.TableLaws.{copied, copied_more, copied_zeros}
+use lib.ListN.{drop, replicate}
+use Rattle.reading.proofs.TableLaws.{copied}
 use Rattle.reading.proofs.tables.bytes_at.Given as goal
 
 abbrev pub invariant-loop-i : goal.invariant-loop-i

@@ -2,7 +2,6 @@
 use mathlib.Core.Path.{◌∙◌, ap}
 use Prim.Native.Nat.{◌+◌}
 use native.Mathlib.Omega.{arith}
-use borrow.Author.Rules.{rules}
 use Rattle.refusal.specs.declared.refusal.Status.TheVariants as Status'
 use Rattle.table.specs.Table.{bit_bytes}
 use Rattle.reading.specs.Fields.{bits_field}

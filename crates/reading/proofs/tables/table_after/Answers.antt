@@ -3,7 +3,6 @@ use mathlib.Core.Path.{◌≡◌, sym, ◌∙◌, ap}
 use mathlib.Core.Bool.{Bool}
 use mathlib.Core.List.{List}
 use Prim.Native.Nat.{ℕ}
-use borrow.Author.Rules.{rules}
 use Rattle.heads.specs.declared.kind.KindByte.{KindByte}
 use Rattle.refusal.specs.Refusal.{Answered, refused, and_then}
 use Rattle.codec.specs.Kind.{Head}

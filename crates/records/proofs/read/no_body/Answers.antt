@@ -1,5 +1,4 @@
 -- `records::read::no_body` meets its contract. Assumes nothing.
-use borrow.Author.Rules.{rules}
 use Rattle.records.proofs.read.no_body.Goals as goal
 
 pub returns : goal.returns

@@ -1,5 +1,4 @@
 -- `records::read::open_core` meets its contract: M is what `top_power` finds. Assumes nothing.
-use borrow.Author.Rules.{rules}
 use Rattle.types.specs.declared.stage.Stage.TheVariants.{Open}
 use Rattle.records.proofs.read.open_core.Goals as goal
 

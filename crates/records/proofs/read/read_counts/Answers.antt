@@ -1,6 +1,6 @@
 -- `records::read::read_counts` meets its contract: the row list by `read_rows`, whether it kept its ranges, and whether the job is sound.
 -- Assumes nothing.
-use Rattle.core.specs.Prelude.{◌≡◌, ℕ, Bool, true, false, not, ◌&&◌, [], ◌∷◌}
+use Rattle.core.specs.Prelude.{◌≡◌, ℕ, Bool, true, false, not, ◌&&◌, List, [], ◌∷◌}
 use mathlib.Core.Path.{sym, ◌∙◌, ap, ap₂}
 use native.Mathlib.Omega.{arith}
 use borrow.Author.Rules.{rules}
@@ -10,7 +10,10 @@ use Rattle.table.specs.Table.{rows, function_of}
 use Rattle.table.specs.Witness.{CountArray}
 use Rattle.table.proofs.TableLaws.{rows_le}
 use Rattle.table.proofs.WitnessLaws.{count_array}
-use Rattle.refusal.specs.Refusal.{rule, answered, checked}
+use Rattle.types.specs.declared.stage.Stage.TheVariants.{Open}
+use Rattle.numbers.specs.Power.{highest}
+use Rattle.refusal.specs.declared.refusal.Status.TheVariants as Status'
+use Rattle.refusal.specs.Refusal.{answered, refused, checked}
 use Rattle.refusal.proofs.RefusalLaws.{rule_broken, rule_kept}
 use Rattle.types.specs.declared.vector.Vector.{Vector}
 use Rattle.job.specs.declared.job.Job.{Job}
@@ -27,7 +30,6 @@ use Rattle.records.specs.Record.{Record, of_job, open_job, unsound_job, counts_a
 use Rattle.records.specs.Calls.{record_field}
 use Rattle.codec.proofs.FieldLaws.{onward_refused, onward_read}
 use Rattle.records.proofs.read.read_counts.Goals as goal
-use Rattle.records.proofs.read.read_counts.Goals.{After-is_sound, After-read_rows-field, After-struct_known-1, Start}
 
 -- what comes after the row list
 abbrev tested : Table → ℕ → Vector → Vector → RowList → ℕ → Reading Record
@@ -39,77 +41,76 @@ tested t k v w list next =
 pub read_rows-field-requires : goal.read_rows-field-requires
 read_rows-field-requires c = omega (arith, c.rows_of.ensures, rows_le c.requires)
 
-abbrev list : After-read_rows-field → Reading RowList
-list c = let a = c.before.before.before.args in row_list_at false (rows a.table) a.bytes.now a.at
+module _ {x : RowsField} {m : ℕ} (t : Table) (k : ℕ) (v w : Vector) (s : List ℕ) (at : ℕ)
+    (is : x ≡ rows_field (row_list_at false m s at)) (counted : m ≡ rows t) where
+  abbrev list : Reading RowList
+  list = row_list_at false (rows t) s at
 
-list_is : (c : After-read_rows-field) → c.read_rows-field.result ≡ rows_field (list c)
-list_is c =
-    let a = c.args in
-    c.read_rows-field.ensures ∙ ap (λ (m : ℕ). rows_field (row_list_at false m a.bytes.now a.at)) c.rows_of.ensures
+  list_is : x ≡ rows_field list
+  list_is = is ∙ ap (λ (m : ℕ). rows_field (row_list_at false m s at)) counted
+
+  list_refused : {n : ℕ} → x.status ≡ Status'.Refused n → refused n ≡ counts_at t k v w s at
+  list_refused e = onward_refused list (tested t k v w) (rows_refused list list_is e)
+
+  -- ---- the job
+  -- the call comes to what the test of the list and the job says
+  module _ (done : x.status ≡ Status'.Done) where
+    passed : {next : Reading Record} → next ≡ tested t k v w (record { counts = x.counts; kept = x.kept }) x.next → next ≡ counts_at t k v w s at
+    passed e = e ∙ onward_read list (tested t k v w) (rows_done list list_is done)
+
+    broken : (x.kept && is_sound (open_job t k v w x.counts)) ≡ false → refused 9 ≡ counts_at t k v w s at
+    broken e = let j = open_job t k v w x.counts in passed (rule_broken 9 [] (answered (field (of_job j) x.next)) (ap not e))
+
+    kept_job : (x.kept && is_sound (open_job t k v w x.counts)) ≡ true
+        → answered (field (of_job (open_job t k v w x.counts)) x.next) ≡ counts_at t k v w s at
+    kept_job e = let j = open_job t k v w x.counts in passed (rule_kept 9 [] (answered (field (of_job j) x.next)) (ap not e))
 
 pub returns-in-Refused : goal.returns-in-Refused
 returns-in-Refused c =
     let a = c.args in
     c.no_body.ensures
-    ∙ ap record_field (onward_refused (list (goal.at.returns-in-Refused c).After-read_rows-field) (tested a.table a.k a.v a.s) (rows_refused (list (goal.at.returns-in-Refused c).After-read_rows-field) (list_is (goal.at.returns-in-Refused c).After-read_rows-field) c.in-Refused.is))
-
-pub enum_told-1 : goal.enum_told-1
-enum_told-1 c = search rules
-
--- ---- the job
-module _ (c : After-struct_known-1) where
-  abbrev start : Start
-  start = c.before.before.before.before.before.before
-
-  abbrev read : RowsField
-  read = c.before.before.before.read-rows.result
-
-  abbrev job : Job
-  job = let a = start.args in open_job a.table a.k a.v a.s read.counts
-
-  -- the call comes to what the test of the list and the job says
-  passed : {next : Reading Record} → next ≡ checked (rule 9 (not (read.kept && is_sound job)) ∷ []) (answered (field (of_job job) read.next))
-      → let a = start.args in record_field next ≡ record_field (counts_at a.table a.k a.v a.s a.bytes.now a.at)
-  passed e =
-      let a = start.args in
-      let at = c.before.before.before in
-      ap record_field (e ∙ onward_read (list at) (tested a.table a.k a.v a.s) (rows_done (list at) (list_is at) c.before.enum_told.given.1))
+    ∙ ap record_field (list_refused a.table a.k a.v a.s a.bytes.now a.at c.read_rows-field.ensures c.rows_of.ensures c.in-Refused.is)
 
 pub returns-then-not-field : goal.returns-then-not-field
 returns-then-not-field c =
-    let broken : (read (goal.at.returns-then-not-field c).After-struct_known-1).kept ≡ false = not-true (read (goal.at.returns-then-not-field c).After-struct_known-1).kept c.if-not-field.true in
-    c.no_body-then-not-field.ensures ∙ passed (goal.at.returns-then-not-field c).After-struct_known-1 (rule_broken 9 [] (answered (field (of_job (job (goal.at.returns-then-not-field c).After-struct_known-1)) (read (goal.at.returns-then-not-field c).After-struct_known-1).next)) (ap (λ (b : Bool). not (b && is_sound (job (goal.at.returns-then-not-field c).After-struct_known-1))) broken))
-
-counts_lent : (c : After-struct_known-1) → CountArray (read c).counts
-counts_lent c = count_array (search rules) (λ r. search rules)
+    let a = c.args in
+    let unkept = ap (λ (b : Bool). b && is_sound (open_job a.table a.k a.v a.s c.read_rows-field.result.counts)) (not-true c.read_rows-field.result.kept c.if-not-field.true) in
+    c.no_body-then-not-field.ensures
+    ∙ ap record_field (broken a.table a.k a.v a.s a.bytes.now a.at c.read_rows-field.ensures c.rows_of.ensures c.in_default.is unkept)
 
 pub is_sound-requires : goal.is_sound-requires
-is_sound-requires c = ((start (goal.at.is_sound-requires c).After-struct_known-1).requires, counts_lent (goal.at.is_sound-requires c).After-struct_known-1)
-
--- past the test that the list kept its ranges
-abbrev listed : After-is_sound → After-struct_known-1
-listed c = c.before.before.before.before.before
+is_sound-requires c = (c.requires, count_array (search rules) (λ r. search rules))
 
 -- the state that is tested is the job's
-state_is : (c : After-is_sound) → state_of c.open_core-core.result (read (listed c)).counts ≡ (job (listed c)).state
-state_is c = ap (λ (core : Core). state_of core (read (listed c)).counts) c.open_core-core.ensures
+state_is : (core : Core) (k : ℕ) (v w : Vector) (counts : List ℕ) → core ≡ record { k = k; v = v; mark = highest k; s = w; stage = Open }
+    → (t : Table) → state_of core counts ≡ (open_job t k v w counts).state
+state_is core k v w counts e t = ap (λ (core : Core). state_of core counts) e
 
 -- what the list and the job together come to
-kept_is : (c : After-is_sound) → ((read (listed c)).kept && is_sound (job (listed c))) ≡ c.is_sound.result
-kept_is c =
-    let kept : (read (listed c)).kept ≡ true = not-false (read (listed c)).kept c.if-not-field.false in
-    ap₂ ◌&&◌ kept (sym (c.is_sound.ensures ∙ ap (S.isSound (function_of (start (listed c)).args.table)) (state_is c)))
+kept_is : {kept : Bool} (t : Table) (k : ℕ) (v w : Vector) (counts : List ℕ) (core : Core) {sound : Bool} → kept ≡ true
+    → core ≡ record { k = k; v = v; mark = highest k; s = w; stage = Open } → sound ≡ S.is_sound (function_of t) (state_of core counts)
+    → (kept && is_sound (open_job t k v w counts)) ≡ sound
+kept_is t k v w counts core kept e says =
+    ap₂ ◌&&◌ kept (sym (says ∙ ap (S.is_sound (function_of t)) (state_is core k v w counts e t)))
 
 pub returns-then-not-is_sound : goal.returns-then-not-is_sound
 returns-then-not-is_sound c =
-    let at = listed (goal.at.returns-then-not-is_sound c).After-is_sound in
+    let a = c.args in
+    let unsound = kept_is a.table a.k a.v a.s c.read_rows-field.result.counts c.open_core-core.result (not-false c.read_rows-field.result.kept c.if-not-field.false) c.open_core-core.ensures c.is_sound.ensures in
     c.no_body-then-not-is_sound.ensures
-    ∙ passed at (rule_broken 9 [] (answered (field (of_job (job at)) (read at).next)) (ap not (kept_is (goal.at.returns-then-not-is_sound c).After-is_sound) ∙ c.if-not-is_sound.true))
+    ∙ ap record_field
+    (broken a.table a.k a.v a.s a.bytes.now a.at c.read_rows-field.ensures c.rows_of.ensures c.in_default.is (unsound ∙ c.if-not-is_sound.true))
 
 pub returns : goal.returns
 returns c =
-    let at = listed (goal.at.returns c).After-is_sound in
-    let state = c.state_of.ensures ∙ state_is (goal.at.returns c).After-is_sound in
+    let a = c.args in
+    let counts = c.read_rows-field.result.counts in
+    let state = c.state_of.ensures ∙ state_is c.open_core-core.result a.k a.v a.s counts c.open_core-core.ensures a.table in
+    let sound = kept_is a.table a.k a.v a.s counts c.open_core-core.result (not-false c.read_rows-field.result.kept c.if-not-field.false) c.open_core-core.ensures c.is_sound.ensures in
     (λ i. let r = c.bare-read.ensures i in
-    record { read = record { kind = r.kind; table = r.table; gate = r.gate; witness = r.witness; job = record { table = (start at).args.table; state = state i } }; next = (read at).next })
-    ∙ passed at (rule_kept 9 [] (answered (field (of_job (job at)) (read at).next)) (ap not (kept_is (goal.at.returns c).After-is_sound) ∙ c.if-not-is_sound.false))
+    record {
+      read = record { kind = r.kind; table = r.table; gate = r.gate; witness = r.witness; job = record { table = a.table; state = state i } };
+      next = c.read_rows-field.result.next;
+    })
+    ∙ ap record_field
+    (kept_job a.table a.k a.v a.s a.bytes.now a.at c.read_rows-field.ensures c.rows_of.ensures c.in_default.is (sound ∙ c.if-not-is_sound.false))

@@ -1,6 +1,5 @@
 -- `records::read::rows_of` meets its contract: there are at most 256 rows. Assumes nothing.
 use native.Mathlib.Omega.{arith}
-use borrow.Author.Rules.{rules}
 use Rattle.table.proofs.TableLaws.{rows_le}
 use Rattle.records.proofs.read.rows_of.Goals as goal
 

@@ -1,7 +1,11 @@
 -- `checked::gate_holds` meets its contract: what was read is a table, and the gate is checked against it. Assumes nothing.
+use borrow.Author.Rules.{rules}
+use mir.Val.{to_z, of_z}
+use mir.Syntax.{w64, w32}
+use Rattle.numbers.proofs.Int.{back}
 use lib.IntN.{ℤ}
 use mathlib.Core.List.{List}
-use mathlib.Core.Path.{◌∙◌, ap}
+use mathlib.Core.Path.{◌∙◌, ap, ◌≡◌}
 use Prim.Native.Nat.{ℕ}
 use native.Mathlib.Omega.{arith}
 use Rattle.types.specs.declared.table.Table.{Table}
@@ -28,10 +32,12 @@ check_gate_with-requires c =
 pub returns-in-Table : goal.returns-in-Table
 returns-in-Table c =
     let whole = of_family c.args.bytes.now c.read-given.ensures tables part (after c.args.weights.now c.args.threshold) c.in-Table.is in
-    c.check_gate_with.ensures ∙ ap as_result whole
+    let held : to_z w32 (of_z w32 c.args.threshold) ≡ c.args.threshold = search rules in
+    let same = ap (check_gate_with c.read-given.result.table c.args.weights.now) held in
+    back w64 c.check_gate_with.type_inv ∙ c.check_gate_with.ensures ∙ ap as_result (same ∙ whole)
 
 -- another kind, or a refusal
 pub returns-in_default : goal.returns-in_default
 returns-in_default c =
     let other = not_of c.args.bytes.now c.read-given.ensures tables part (after c.args.weights.now c.args.threshold) c.in_default.not-Table in
-    c.not_taken.ensures ∙ ap as_result other
+    back w64 c.not_taken.type_inv ∙ c.not_taken.ensures ∙ ap as_result other

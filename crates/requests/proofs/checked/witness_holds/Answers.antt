@@ -1,4 +1,6 @@
 -- `checked::witness_holds` meets its contract: what was read is a table, and the counts are checked against it. Assumes nothing.
+use mir.Syntax.{w64}
+use Rattle.numbers.proofs.Int.{back}
 use mathlib.Core.List.{List}
 use mathlib.Core.Path.{◌∙◌, ap}
 use Prim.Native.Nat.{ℕ}
@@ -27,10 +29,10 @@ check_witness_with-requires c =
 pub returns-in-Table : goal.returns-in-Table
 returns-in-Table c =
     let whole = of_family c.args.bytes.now c.read-given.ensures tables part (after c.args.counts.now) c.in-Table.is in
-    c.check_witness_with.ensures ∙ ap as_result whole
+    back w64 c.check_witness_with.type_inv ∙ c.check_witness_with.ensures ∙ ap as_result whole
 
 -- another kind, or a refusal
 pub returns-in_default : goal.returns-in_default
 returns-in_default c =
     let other = not_of c.args.bytes.now c.read-given.ensures tables part (after c.args.counts.now) c.in_default.not-Table in
-    c.not_taken.ensures ∙ ap as_result other
+    back w64 c.not_taken.type_inv ∙ c.not_taken.ensures ∙ ap as_result other

@@ -1,4 +1,9 @@
 -- `given::gate_record` meets its contract: what was read is a table, and its record with the gate is written. Assumes nothing.
+use borrow.Author.Rules.{rules}
+use mathlib.Core.Path.{ap, ◌≡◌, ◌∙◌}
+use mir.Val.{to_z, of_z}
+use mir.Syntax.{w64, w32}
+use Rattle.numbers.proofs.Int.{back}
 use native.Mathlib.Omega.{arith}
 use lib.ListN.{length}
 use lib.IntN.{ℤ}
@@ -25,7 +30,7 @@ pub returns-in_default : goal.returns-in_default
 returns-in_default c =
     let a = c.args in
     let other = not_of a.bytes.now c.read-given.ensures tables part (after c.args.weights.now c.args.threshold c.args.out.now) c.in_default.not-Table in
-    returned_refused a.out.now other c.not_taken.ensures
+    returned_refused a.out.now other (back w64 c.not_taken.type_inv ∙ c.not_taken.ensures)
 
 -- one that the call takes
 pub from_gate-requires : goal.from_gate-requires
@@ -35,4 +40,6 @@ from_gate-requires c =
 pub returns : goal.returns
 returns c =
     let whole = of_family c.args.bytes.now c.read-given.ensures tables part (after c.args.weights.now c.args.threshold c.args.out.now) c.in-Table.is in
-    returned_as c.args.out.now whole c.from_gate.ensures
+    let held : to_z w32 (of_z w32 c.args.threshold) ≡ c.args.threshold = search rules in
+    let same = ap (λ (t : ℤ). from_gate c.read-given.result.table c.args.weights.now t (length c.args.out.now)) held in
+    returned_as c.args.out.now (same ∙ whole) (back w64 c.from_gate.type_inv ∙ c.from_gate.ensures.0, c.from_gate.ensures.1)

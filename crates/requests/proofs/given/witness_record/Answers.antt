@@ -1,4 +1,7 @@
 -- `given::witness_record` meets its contract: what was read is a table, and its record with the witness is written. Assumes nothing.
+use mathlib.Core.Path.{◌∙◌}
+use mir.Syntax.{w64}
+use Rattle.numbers.proofs.Int.{back}
 use native.Mathlib.Omega.{arith}
 use lib.ListN.{length}
 use Rattle.types.specs.declared.table.Table.{Table}
@@ -24,7 +27,7 @@ pub returns-in_default : goal.returns-in_default
 returns-in_default c =
     let a = c.args in
     let other = not_of a.bytes.now c.read-given.ensures tables part (after c.args.counts.now c.args.out.now) c.in_default.not-Table in
-    returned_refused a.out.now other c.not_taken.ensures
+    returned_refused a.out.now other (back w64 c.not_taken.type_inv ∙ c.not_taken.ensures)
 
 -- one that the call takes
 pub from_witness-requires : goal.from_witness-requires
@@ -34,4 +37,4 @@ from_witness-requires c =
 pub returns : goal.returns
 returns c =
     let whole = of_family c.args.bytes.now c.read-given.ensures tables part (after c.args.counts.now c.args.out.now) c.in-Table.is in
-    returned_as c.args.out.now whole c.from_witness.ensures
+    returned_as c.args.out.now whole (back w64 c.from_witness.type_inv ∙ c.from_witness.ensures.0, c.from_witness.ensures.1)

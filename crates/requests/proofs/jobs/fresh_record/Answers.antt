@@ -1,4 +1,7 @@
 -- `jobs::fresh_record` meets its contract: what was read is a table that keeps its format, and what its fresh job has come to is written. Assumes nothing.
+use mathlib.Core.Path.{◌∙◌}
+use mir.Syntax.{w64}
+use Rattle.numbers.proofs.Int.{back}
 use native.Mathlib.Omega.{arith}
 use lib.ListN.{length}
 use Rattle.types.specs.declared.table.Table.{Table}
@@ -25,7 +28,7 @@ pub returns-in_default : goal.returns-in_default
 returns-in_default c =
     let a = c.args in
     let other = not_of a.bytes.now c.read-given.ensures tables part (after c.args.out.now) c.in_default.not-Table in
-    returned_refused a.out.now other c.not_taken.ensures
+    returned_refused a.out.now other (back w64 c.not_taken.type_inv ∙ c.not_taken.ensures)
 
 -- one that the call takes
 pub fresh_job-requires : goal.fresh_job-requires
@@ -35,4 +38,4 @@ fresh_job-requires c =
 pub returns : goal.returns
 returns c =
     let whole = of_family c.args.bytes.now c.read-given.ensures tables part (after c.args.out.now) c.in-Table.is in
-    returned_as c.args.out.now whole c.fresh_job.ensures
+    returned_as c.args.out.now whole (back w64 c.fresh_job.type_inv ∙ c.fresh_job.ensures.0, c.fresh_job.ensures.1)

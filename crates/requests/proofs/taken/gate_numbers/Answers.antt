@@ -1,7 +1,9 @@
 -- `taken::gate_numbers` meets its contract: what was read has a gate, and its numbers are given. Assumes nothing.
+use mir.Syntax.{w64}
+use Rattle.numbers.proofs.Int.{back}
 use lib.IntN.{ℤ}
 use mathlib.Core.List.{List}
-use mathlib.Core.Path.{refl}
+use mathlib.Core.Path.{refl, ◌∙◌}
 use native.Mathlib.Omega.{arith}
 use lib.ListN.{length}
 use Rattle.types.specs.declared.gate.Gate.{Gate}
@@ -25,7 +27,7 @@ pub returns-in_default : goal.returns-in_default
 returns-in_default c =
     let a = c.args in
     let other = not_of a.bytes.now c.read-given.ensures gates part (after c.args.weights.now) c.in_default.not-Gate in
-    put_as a.weights.now a.threshold.now other ((c.not_taken.ensures, refl), refl)
+    put_as a.weights.now a.threshold.now other ((back w64 c.not_taken.type_inv ∙ c.not_taken.ensures, refl), refl)
 
 -- a gate
 pub put_weights-requires : goal.put_weights-requires
@@ -36,4 +38,4 @@ pub returns : goal.returns
 returns c =
     let a = c.args in
     let whole = of_family a.bytes.now c.read-given.ensures gates part (after c.args.weights.now) c.in-Gate.is in
-    put_as a.weights.now a.threshold.now whole c.put_weights.ensures
+    put_as a.weights.now a.threshold.now whole ((back w64 c.put_weights.type_inv ∙ c.put_weights.ensures.0.0, c.put_weights.ensures.0.1), c.put_weights.ensures.1)

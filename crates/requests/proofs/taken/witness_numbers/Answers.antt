@@ -1,4 +1,7 @@
 -- `taken::witness_numbers` meets its contract: what was read has a witness, and its counts are written. Assumes nothing.
+use mathlib.Core.Path.{◌∙◌}
+use mir.Syntax.{w64}
+use Rattle.numbers.proofs.Int.{back}
 use native.Mathlib.Omega.{arith}
 use lib.ListN.{length}
 use Rattle.refusal.specs.Refusal.{Answered}
@@ -17,14 +20,14 @@ abbrev part : Read → List ℕ
 part r = counts_of r.table r.witness
 
 abbrev after : List ℕ → List ℕ → Answered (List ℕ)
-after counts counts = fitted (length counts) counts
+after out counts = fitted (length out) counts
 
 -- another kind, or a refusal
 pub returns-in_default : goal.returns-in_default
 returns-in_default c =
     let a = c.args in
     let other = not_of a.bytes.now c.read-given.ensures witnesses part (after c.args.counts.now) c.in_default.not-Witness in
-    returned_refused a.counts.now other c.not_taken.ensures
+    returned_refused a.counts.now other (back w64 c.not_taken.type_inv ∙ c.not_taken.ensures)
 
 -- one that the call takes
 pub put_counts-requires : goal.put_counts-requires
@@ -34,4 +37,4 @@ put_counts-requires c =
 pub returns : goal.returns
 returns c =
     let whole = of_family c.args.bytes.now c.read-given.ensures witnesses part (after c.args.counts.now) c.in-Witness.is in
-    returned_as c.args.counts.now whole c.put_counts.ensures
+    returned_as c.args.counts.now whole (back w64 c.put_counts.type_inv ∙ c.put_counts.ensures.0, c.put_counts.ensures.1)

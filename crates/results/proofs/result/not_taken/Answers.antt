@@ -1,28 +1,21 @@
 -- `result::not_taken` meets its contract: a kind that has no number is one of the four. Assumes nothing.
 use mathlib.Core.Path.{◌≡◌, refl, sym, ◌∙◌, ap}
-use mathlib.Core.Logic.{⊎_elim}
-use mathlib.Core.List.{[], ◌∷◌}
 use Prim.Native.Nat.{ℕ}
-use native.Mathlib.Omega.{arith}
 use mir.Syntax.{w64}
-use borrow.Author.Rules.{rules}
-use denote.Enum.Declared.{tag_of}
-use types.Run.{OneOf}
 use Rattle.numbers.proofs.Int.{back}
 use Rattle.refusal.specs.Refusal.{refused}
 use Rattle.types.specs.declared.kind.Kind.{Kind}
 use Rattle.types.specs.declared.kind.Kind.TheVariants as Kind'
-use Rattle.types.specs.contracts.kind.Kind.{the_type}
 use Rattle.results.specs.Result.{as_result, other_kind, number_for}
 use Rattle.results.proofs.result.not_taken.Goals as goal
 
 -- the number of another kind
-other : (k : Kind) → OneOf (0 ∷ 1 ∷ 2 ∷ 3 ∷ []) (tag_of the_type k) → other_kind ≡ number_for k
-other Kind'.Table o = refl
-other Kind'.Gate o = refl
-other Kind'.Witness o = refl
-other Kind'.Job o = refl
-other (Kind'.Refused n) o = absurd (⊎_elim (λ e. omega arith) (⊎_elim (λ e. omega arith) (⊎_elim (λ e. omega arith) (λ e. omega arith))) o)
+other : (k : Kind) → ((n : ℕ) → k ≡ Kind'.Refused n → ⊥) → other_kind ≡ number_for k
+other Kind'.Table h = refl
+other Kind'.Gate h = refl
+other Kind'.Witness h = refl
+other Kind'.Job h = refl
+other (Kind'.Refused n) h = absurd (h n refl)
 
 pub returns-in-Refused : goal.returns-in-Refused
 returns-in-Refused c =
@@ -31,4 +24,5 @@ returns-in-Refused c =
 
 pub returns : goal.returns
 returns c =
-    let d = c.in_default in ?
+    let same = ap (λ (n : ℕ). as_result (refused n)) (other c.args.kind c.in_default.not-Refused) in
+    back w64 c.refusal-2.type_inv ∙ c.refusal-2.ensures ∙ same

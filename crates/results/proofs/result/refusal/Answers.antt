@@ -5,7 +5,6 @@ use lib.IntN.{pos, neg_ℤ, ◌-ℤ◌, +ℤ_idl}
 use mir.Syntax.{w64}
 use mir.Val.{to_z}
 use mir.Facts.{to_z-of_z, to_z_pos}
-use borrow.Author.Rules.{rules}
 use Rattle.numbers.proofs.Int.{parts_neg}
 use Rattle.numbers.proofs.Widths.{size_fits}
 use Rattle.results.proofs.result.refusal.Goals as goal

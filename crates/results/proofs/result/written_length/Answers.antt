@@ -1,12 +1,10 @@
 -- `result::written_length` meets its contract, by the answer: a length of at most 2,048 is a signed number of 64 bits. Assumes nothing.
 use mathlib.Core.Path.{◌≡◌, sym, ◌∙◌, ap}
-use Prim.Native.Nat.{◌≤◌}
 use native.Mathlib.Omega.{arith}
 use lib.IntN.{pos}
 use mir.Syntax.{w64}
 use mir.Val.{to_z}
 use mir.Facts.{to_z_pos}
-use borrow.Author.Rules.{rules}
 use Rattle.numbers.proofs.Int.{back}
 use Rattle.numbers.proofs.Widths.{size_fits}
 use Rattle.writers.specs.declared.write.Written.{Written}

@@ -1,7 +1,6 @@
 -- `result::yes_or_no` meets its contract, by the answer. Assumes nothing.
 use mathlib.Core.Path.{◌≡◌, sym, ◌∙◌, ap}
 use mir.Syntax.{w64}
-use borrow.Author.Rules.{rules}
 use Rattle.numbers.proofs.Int.{back}
 use Rattle.refusal.specs.declared.refusal.Answer.{Answer}
 use Rattle.results.specs.Result.{as_result, said, said_by}

@@ -3,8 +3,7 @@
 use mathlib.Core.Path.{◌≡◌, sym}
 use mathlib.Core.Bool.{Bool, true, false}
 use mathlib.Core.List.{List}
-use mathlib.Core.Logic.{⊎_elim}
-use Prim.Native.Nat.{ℕ, ◌+◌, ◌-◌, ◌≤◌}
+use Prim.Native.Nat.{ℕ, ◌+◌}
 use native.Mathlib.Nat.{zero-add}
 use native.Mathlib.Numerals.{add-one}
 use native.Mathlib.Omega.{arith}
@@ -15,6 +14,7 @@ use Rattle.function.specs.Witness.{only_if, count_of}
 use Rattle.codec.specs.RowList.{filled_from}
 use Rattle.codec.proofs.PairLaws.{filled_zero, filled_snoc, filled_most}
 use Rattle.rowlists.proofs.write.filled.Goals as goal
+use Rattle.rowlists.proofs.write.filled.Goals.{then-counts-row-gt0, else-counts-row-gt0}
 
 -- one row more
 filled_next : (counts : List ℕ) (row : ℕ) (t : Bool) → ltb 0 (count_of counts row) ≡ t → filled_from counts (row + 1) 0 ≡ filled_from counts row 0 + only_if t 1
@@ -32,7 +32,10 @@ loop-row-preserved c =
     let count = count_of c.args.counts.now c.loop-row.row in
     let next = filled_next c.args.counts.now c.loop-row.row in (
       omega arith,
-      ⊎_elim (λ w. omega (arith, next true (lt-ltb 0 count w.0.taken))) (λ w. omega (arith, next false (le-ltb 0 count w.0.left))) c.if-counts-row-gt0.branch,
+      elim c.if-counts-row-gt0.branch [
+        | then-counts-row-gt0 w ↦ omega (arith, next true (lt-ltb 0 count w.if-counts-row-gt0.true))
+        | else-counts-row-gt0 w ↦ omega (arith, next false (le-ltb 0 count w.if-counts-row-gt0.false))
+      ],
     )
 
 pub returns : goal.returns

@@ -1,7 +1,6 @@
 -- `write::pair_length` meets its contract: a pair takes at most six bytes, so that the sum fits. Assumes nothing.
 use native.Mathlib.Omega.{arith}
 use lib.ListN.{length-append}
-use borrow.Author.Rules.{rules}
 use Rattle.codec.proofs.NumberLaws.{number_length}
 use Rattle.codec.proofs.PairLaws.{pair_above}
 use Rattle.rowlists.proofs.write.pair_length.Goals as goal

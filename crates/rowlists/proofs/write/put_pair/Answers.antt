@@ -4,7 +4,6 @@ use mathlib.Core.List.{List, ◌++◌}
 use Prim.Native.Nat.{ℕ, ◌+◌, ◌≤◌}
 use native.Mathlib.Omega.{arith}
 use lib.ListN.{length, length-append}
-use borrow.Author.Rules.{rules}
 use Rattle.codec.specs.Number.{number_bytes}
 use Rattle.codec.specs.RowList.{pair_bytes}
 use Rattle.codec.proofs.WrittenLaws.{written_nil, written_room, written_next}
@@ -17,29 +16,29 @@ returns-then-count-eq0 c =
     let a = c.args in
     rw c.if-count-eq0.true (omega arith, sym (written_nil a.out.now a.at))
 
-abbrev row-bytes : Else-count-eq0 → List ℕ
-row-bytes c = number_bytes c.before.before.args.row
+abbrev row_bytes : Else-count-eq0 → List ℕ
+row_bytes c = number_bytes c.before.before.args.row
 
-abbrev count-bytes : Else-count-eq0 → List ℕ
-count-bytes c = number_bytes c.before.before.args.count
+abbrev count_bytes : Else-count-eq0 → List ℕ
+count_bytes c = number_bytes c.before.before.args.count
 
 -- the bytes of a pair, which there is room for
-parts : (c : Else-count-eq0) → pair_bytes c.args.row c.args.count ≡ row-bytes c ++ count-bytes c
+parts : (c : Else-count-eq0) → pair_bytes c.args.row c.args.count ≡ row_bytes c ++ count_bytes c
 parts c = pair_above c.args.row c.args.count (omega arith)
 
-room : (c : Else-count-eq0) → c.args.at + length (row-bytes c ++ count-bytes c) ≤ length c.args.out.now
+room : (c : Else-count-eq0) → c.args.at + length (row_bytes c ++ count_bytes c) ≤ length c.args.out.now
 room c = rw (← parts c) c.requires.2
 
 pub put_number-middle-requires : goal.put_number-middle-requires
-put_number-middle-requires c = (c.requires.0, omega (arith, room (goal.at.put_number-middle-requires c).Else-count-eq0, length-append (row-bytes (goal.at.put_number-middle-requires c).Else-count-eq0) (count-bytes (goal.at.put_number-middle-requires c).Else-count-eq0)))
+put_number-middle-requires c = (c.requires.0, omega (arith, room (goal.at.put_number-middle-requires c).Else-count-eq0, length-append (row_bytes (goal.at.put_number-middle-requires c).Else-count-eq0) (count_bytes (goal.at.put_number-middle-requires c).Else-count-eq0)))
 
 pub put_number-requires : goal.put_number-requires
 put_number-requires c =
     let a = c.args in
-    (c.requires.1, written_room a.out.now a.at (row-bytes (goal.at.put_number-requires c).Else-count-eq0) (count-bytes (goal.at.put_number-requires c).Else-count-eq0) (room (goal.at.put_number-requires c).Else-count-eq0) c.put_number-middle.ensures)
+    (c.requires.1, written_room a.out.now a.at (row_bytes (goal.at.put_number-requires c).Else-count-eq0) (count_bytes (goal.at.put_number-requires c).Else-count-eq0) (room (goal.at.put_number-requires c).Else-count-eq0) c.put_number-middle.ensures)
 
 pub returns : goal.returns
 returns c =
     let a = c.args in
     rw (parts (goal.at.returns c).Else-count-eq0)
-    (written_next a.out.now a.at (row-bytes (goal.at.returns c).Else-count-eq0) (count-bytes (goal.at.returns c).Else-count-eq0) (room (goal.at.returns c).Else-count-eq0) c.put_number-middle.ensures c.put_number.ensures)
+    (written_next a.out.now a.at (row_bytes (goal.at.returns c).Else-count-eq0) (count_bytes (goal.at.returns c).Else-count-eq0) (room (goal.at.returns c).Else-count-eq0) c.put_number-middle.ensures c.put_number.ensures)

@@ -1,7 +1,6 @@
 -- `write::rows_length` meets its contract. The loop's invariant: to the bytes of the list's length those of the pairs of the rows below `row`
 -- are added. The measure is the number of rows left. Assumes nothing.
 use mathlib.Core.Path.{◌≡◌, ap}
-use Prim.Native.Nat.{◌+◌, ◌-◌, ◌≤◌}
 use native.Mathlib.Omega.{arith}
 use lib.ListN.{length, length-append}
 use borrow.Author.Rules.{rules}

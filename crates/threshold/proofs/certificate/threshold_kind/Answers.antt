@@ -1,4 +1,6 @@
 -- `certificate::threshold_kind` meets its contract: what was read has a table that keeps its rules, and a kind. Assumes nothing.
+use mir.Syntax.{w64}
+use Rattle.numbers.proofs.Int.{back}
 use mathlib.Core.Path.{◌∙◌, ap}
 use native.Mathlib.Omega.{arith}
 use Rattle.records.specs.declared.read.Read.{Read}
@@ -13,4 +15,4 @@ kind_read-requires c = read_kept c.args.bytes.now c.read.ensures (λ i h. omega 
 
 pub returns : goal.returns
 unfolding kind
-returns c = c.kind_read.ensures ∙ ap (λ (r : Read). as_result (kind_in r)) c.read.ensures
+returns c = back w64 c.kind_read.type_inv ∙ c.kind_read.ensures ∙ ap (λ (r : Read). as_result (kind_in r)) c.read.ensures

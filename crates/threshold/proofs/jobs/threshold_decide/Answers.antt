@@ -1,4 +1,7 @@
 -- `jobs::threshold_decide` meets its contract: what was read is a table that keeps its format, which is decided. Assumes nothing.
+use mathlib.Core.Path.{◌∙◌}
+use mir.Syntax.{w64}
+use Rattle.numbers.proofs.Int.{back}
 use native.Mathlib.Omega.{arith}
 use lib.ListN.{length}
 use Rattle.handed.specs.Handed.{decided_back}
@@ -13,7 +16,7 @@ pub returns-in_default : goal.returns-in_default
 returns-in_default c =
     let a = c.args in
     let other = not_of a.bytes.now c.read-given.ensures tables (λ (r : Read). r.table) (decided_back (length a.out.now)) c.in_default.not-Table in
-    handed_refused a.out.now a.made.now other c.not_taken.ensures
+    handed_refused a.out.now a.made.now other (back w64 c.not_taken.type_inv ∙ c.not_taken.ensures)
 
 -- a table
 pub decide_table-requires : goal.decide_table-requires
@@ -24,4 +27,4 @@ pub returns : goal.returns
 returns c =
     let a = c.args in
     let whole = of_family a.bytes.now c.read-given.ensures tables (λ (r : Read). r.table) (decided_back (length a.out.now)) c.in-Table.is in
-    handed_as a.out.now a.made.now whole c.decide_table.ensures
+    handed_as a.out.now a.made.now whole ((back w64 c.decide_table.type_inv ∙ c.decide_table.ensures.0.0, c.decide_table.ensures.0.1), c.decide_table.ensures.1)

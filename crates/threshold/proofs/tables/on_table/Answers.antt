@@ -1,5 +1,8 @@
 -- `tables::on_table` meets its contract: what was read is a table that keeps its format, and what is asked of it is written. Assumes
 -- nothing.
+use mathlib.Core.Path.{◌∙◌}
+use mir.Syntax.{w64}
+use Rattle.numbers.proofs.Int.{back}
 use Rattle.inputs.specs.declared.asked.Asked.{Asked}
 use mathlib.Core.List.{List}
 use Prim.Native.Nat.{ℕ}
@@ -23,7 +26,7 @@ after out asked t = fitted (length out) (asked_bytes asked t)
 pub returns-in_default : goal.returns-in_default
 returns-in_default c =
     let other = not_of c.args.bytes.now c.read-given.ensures tables (λ (r : Read). r.table) (after c.args.out.now c.args.asked) c.in_default.not-Table in
-    returned_refused c.args.out.now other c.not_taken.ensures
+    returned_refused c.args.out.now other (back w64 c.not_taken.type_inv ∙ c.not_taken.ensures)
 
 -- a table
 pub put_asked-requires : goal.put_asked-requires
@@ -33,4 +36,4 @@ put_asked-requires c =
 pub returns : goal.returns
 returns c =
     let whole = of_family c.args.bytes.now c.read-given.ensures tables (λ (r : Read). r.table) (after c.args.out.now c.args.asked) c.in-Table.is in
-    returned_as c.args.out.now whole c.put_asked.ensures
+    returned_as c.args.out.now whole (back w64 c.put_asked.type_inv ∙ c.put_asked.ensures.0, c.put_asked.ensures.1)

@@ -1,4 +1,6 @@
 -- `words::from_cares` meets its contract: its rules in their order, then the table's record. Assumes nothing.
+use mir.Syntax.{w64}
+use Rattle.numbers.proofs.Int.{back}
 use mathlib.Core.Path.{refl, sym, ◌∙◌, ap₂}
 use mathlib.Core.Bool.{false}
 use mathlib.Core.List.{List, [], ◌∷◌}
@@ -31,7 +33,7 @@ returns-then-inputs-gt8 c =
     let cares = c.args.cares.now in
     let out = c.args.out.now in
     let broken = first_broken_refused (rules_of n words cares) (after n words cares out) 2 (here (lt-ltb 8 n c.if-inputs-gt8.true) refl) in
-    returned_refused out (sym broken) c.refusal.ensures
+    returned_refused out (sym broken) (back w64 c.refusal.type_inv ∙ c.refusal.ensures)
 
 pub returns-then-few_words : goal.returns-then-few_words
 returns-then-few_words c =
@@ -41,7 +43,7 @@ returns-then-few_words c =
     let out = c.args.out.now in
     let short = sym c.few_words.ensures ∙ c.if-few_words.true in
     let broken = first_broken_refused (rules_of n words cares) (after n words cares out) 103 (later (le-ltb 8 n c.if-inputs-gt8.false) (here short refl)) in
-    returned_refused out (sym broken) c.refusal-then-few_words.ensures
+    returned_refused out (sym broken) (back w64 c.refusal-then-few_words.type_inv ∙ c.refusal-then-few_words.ensures)
 
 -- enough words
 pub returns-then-few_words-2 : goal.returns-then-few_words-2
@@ -55,7 +57,7 @@ returns-then-few_words-2 c =
     let broken =
     first_broken_refused (rules_of n words cares) (after n words cares out) 103
     (later (le-ltb 8 n c.if-inputs-gt8.false) (later enough (here short refl))) in
-    returned_refused out (sym broken) c.refusal-then-few_words-2.ensures
+    returned_refused out (sym broken) (back w64 c.refusal-then-few_words-2.type_inv ∙ c.refusal-then-few_words-2.ensures)
 
 pub word_bytes-bytes-requires : goal.word_bytes-bytes-requires
 word_bytes-bytes-requires c =
@@ -65,9 +67,6 @@ word_bytes-bytes-requires c =
 pub word_bytes-cares-requires : goal.word_bytes-cares-requires
 word_bytes-cares-requires c =
     (c.if-inputs-gt8.false, ltb-false (length c.args.cares.now) (word_count c.args.inputs) (sym c.few_words-2.ensures ∙ c.if-few_words-2.false))
-
-pub put_table_record-requires : goal.put_table_record-requires
-put_table_record-requires c = c.if-inputs-gt8.false
 
 pub returns : goal.returns
 returns c =
@@ -81,4 +80,4 @@ returns c =
     let kept = also (le-ltb 8 n few) (also enough (also enough_cares none)) in
     let made = ap₂ (λ (bits cares : List ℕ). write_record (of_table (table_of n bits cares)) (length out)) c.word_bytes-bytes.ensures c.word_bytes-cares.ensures in
     let record_is = made ∙ cares_written n (word_row words) few (word_row cares) (length out) in
-    returned_as out (record_is ∙ sym (none_broken_answered (rules_of n words cares) (after n words cares out) kept)) c.put_table_record.ensures
+    returned_as out (record_is ∙ sym (none_broken_answered (rules_of n words cares) (after n words cares out) kept)) (back w64 c.put_table_record.type_inv ∙ c.put_table_record.ensures.0, c.put_table_record.ensures.1)

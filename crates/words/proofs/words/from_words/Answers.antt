@@ -1,4 +1,6 @@
 -- `words::from_words` meets its contract: its rules in their order, then the table's record. Assumes nothing.
+use mir.Syntax.{w64}
+use Rattle.numbers.proofs.Int.{back}
 use mathlib.Core.Path.{◌≡◌, refl, sym, ◌∙◌, ap}
 use mathlib.Core.Bool.{false}
 use mathlib.Core.List.{List, [], ◌∷◌}
@@ -32,7 +34,7 @@ returns-then-inputs-gt8 c =
     let words = c.args.words.now in
     let out = c.args.out.now in
     let broken = first_broken_refused (rules_of n words) (after n words out) 2 (here (lt-ltb 8 n c.if-inputs-gt8.true) refl) in
-    returned_refused out (sym broken) c.refusal.ensures
+    returned_refused out (sym broken) (back w64 c.refusal.type_inv ∙ c.refusal.ensures)
 
 pub returns-then-few_words : goal.returns-then-few_words
 returns-then-few_words c =
@@ -41,7 +43,7 @@ returns-then-few_words c =
     let out = c.args.out.now in
     let short = sym c.few_words.ensures ∙ c.if-few_words.true in
     let broken = first_broken_refused (rules_of n words) (after n words out) 103 (later (le-ltb 8 n c.if-inputs-gt8.false) (here short refl)) in
-    returned_refused out (sym broken) c.refusal-then-few_words.ensures
+    returned_refused out (sym broken) (back w64 c.refusal-then-few_words.type_inv ∙ c.refusal-then-few_words.ensures)
 
 -- enough words
 pub word_bytes-requires : goal.word_bytes-requires
@@ -61,4 +63,4 @@ returns c =
     -- the table is the one of the words
     let made : c.whole_table.result ≡ table_with n (word_row words) = c.whole_table.ensures ∙ ap (whole_table n) c.word_bytes.ensures in
     let record_is = ap (λ (t : Table). write_record (of_table t) (length out)) made ∙ made_written n (word_row words) few (length out) in
-    returned_as out (record_is ∙ sym (none_broken_answered (rules_of n words) (after n words out) kept)) c.put_table_record.ensures
+    returned_as out (record_is ∙ sym (none_broken_answered (rules_of n words) (after n words out) kept)) (back w64 c.put_table_record.type_inv ∙ c.put_table_record.ensures.0, c.put_table_record.ensures.1)

@@ -1,15 +1,11 @@
 -- `words::word_byte` meets its contract: the bits of a byte of a word are the word's from there on. Assumes nothing.
 use mathlib.Core.Path.{◌∙◌, ap}
 use Prim.Native.Nat.{ℕ}
-use native.Mathlib.Omega.{arith}
 use Rattle.numbers.specs.Packed.{bit_in}
 use Rattle.table.proofs.RowLaws.{row_byte_lem}
 use Rattle.words.specs.Words.{word_row}
 use Rattle.words.proofs.WordLaws.{word_row_lem}
 use Rattle.words.proofs.words.word_byte.Goals as goal
-
-pub bounds-words-at : goal.bounds-words-at
-bounds-words-at c = omega (arith, c.requires.1, c.requires.2)
 
 pub returns : goal.returns
 returns c =

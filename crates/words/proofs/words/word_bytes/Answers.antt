@@ -1,11 +1,9 @@
 -- `words::word_bytes` meets its contract. The loop's invariant: the bytes of the rows below `at` are stored into zeros. The measure is what is left of
 -- the table's bytes. Assumes nothing.
 use mathlib.Core.Path.{◌≡◌, ◌∙◌}
-use Prim.Native.Nat.{◌*◌, ◌<◌}
 use native.Mathlib.Omega.{arith}
 use lib.ListN.{replicate}
 use Rattle.numbers.proofs.TabulateLaws.{filled_none, filled_more}
-use Rattle.table.specs.Table.{rows_of}
 use Rattle.table.proofs.TableLaws.{bytes_le}
 use Rattle.table.proofs.RowLaws.{rows_made}
 use Rattle.words.specs.Words.{word_row}
@@ -13,11 +11,6 @@ use Rattle.words.proofs.words.word_bytes.Goals as goal
 
 pub loop-at-init : goal.loop-at-init
 loop-at-init c = (omega arith, filled_none _ _)
-
-pub word_byte-requires : goal.word_byte-requires
-word_byte-requires c =
-    let inside : 8 * c.loop-at.at < rows_of c.args.n = omega (arith, c.byte_count-count.ensures) in
-    (c.requires.0, inside, c.requires.1)
 
 pub bounds-bytes-at : goal.bounds-bytes-at
 bounds-bytes-at c = omega (arith, c.byte_count-count.ensures, bytes_le c.requires.0)

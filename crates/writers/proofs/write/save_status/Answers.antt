@@ -1,4 +1,5 @@
 -- `writers::write::save_status` meets its contract: the job's rules by `job_status`, then that it has not ended. Assumes nothing.
+use Rattle.job.specs.Calls.{job_checked}
 use mathlib.Core.Path.{◌≡◌, sym, ◌∙◌, ap}
 use mathlib.Core.List.{[], ◌∷◌}
 use Rattle.refusal.specs.Refusal.{Answered, answered, checked}
@@ -6,7 +7,6 @@ use Rattle.refusal.specs.Answers.{status}
 use Rattle.refusal.specs.declared.refusal.Status.{Status}
 use Rattle.refusal.specs.declared.refusal.Status.TheVariants as Status'
 use Rattle.job.specs.declared.job.Job.{Job}
-use Rattle.job.specs.Calls.{job_rules}
 use Rattle.refusal.proofs.RefusalLaws.{rule_broken, rule_kept}
 use Rattle.job.proofs.JobChecked.{job_refused, job_passed}
 use Rattle.records.specs.Record.{of_job}
@@ -19,7 +19,7 @@ returns-in-Refused c =
     ap status (job_refused j c.job_status-status.ensures (has_ended j ∷ []) (answered tt) c.in-Refused.is)
 
 -- past the job's rules
-passed : (j : Job) {s : Status} → s ≡ status (checked (job_rules j []) (answered tt)) → s ≡ Status'.Done → {a : Answered (Unit {0})}
+passed : (j : Job) {s : Status} → s ≡ status (job_checked j) → s ≡ Status'.Done → {a : Answered (Unit {0})}
     → a ≡ checked (has_ended j ∷ []) (answered tt) → status a ≡ status (record_checked (of_job j))
 passed j says done e = ap status (e ∙ job_passed j says (has_ended j ∷ []) (answered tt) done)
 

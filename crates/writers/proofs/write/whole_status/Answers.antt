@@ -7,7 +7,7 @@ use Rattle.refusal.specs.Answers.{status}
 use Rattle.types.specs.declared.table.Table.{Table}
 use Rattle.refusal.specs.declared.refusal.Status.{Status}
 use Rattle.refusal.specs.declared.refusal.Status.TheVariants as Status'
-use Rattle.refusal.specs.TableRules.{table_rules}
+use Rattle.refusal.specs.TableRules.{table_rules, table_checked}
 use Rattle.refusal.proofs.RefusalLaws.{rule_broken, rule_kept}
 use Rattle.refusal.proofs.StatusLaws.{rules_kept}
 use Rattle.refusal.proofs.TableChecked.{kept_inputs, kept_cares, table_refused, table_passed}
@@ -26,7 +26,7 @@ is_whole-requires c =
     (kept_inputs t kept, kept_cares t kept)
 
 -- past the table's rules
-passed : (t : Table) {s : Status} → s ≡ status (checked (table_rules t []) (answered tt)) → s ≡ Status'.Done → {a : Answered (Unit {0})}
+passed : (t : Table) {s : Status} → s ≡ status (table_checked t) → s ≡ Status'.Done → {a : Answered (Unit {0})}
     → a ≡ checked (uncared_row t ∷ []) (answered tt) → status a ≡ status (whole_checked t)
 passed t says done e = ap status (e ∙ table_passed t says (uncared_row t ∷ []) (answered tt) done)
 

@@ -1,7 +1,7 @@
 -- `length::vector_length` meets its contract. The loop's invariant: the weights below `place` take so many bytes. The measure is the number
 -- of places left. Assumes nothing.
 use mathlib.Core.Path.{◌≡◌, ◌∙◌, ap}
-use Prim.Native.Nat.{ℕ, ◌-◌, ◌≤◌}
+use Prim.Native.Nat.{ℕ}
 use native.Mathlib.Omega.{arith}
 use lib.ListN.{length, get_or, length-append}
 use lib.IntN.{pos}
@@ -11,7 +11,7 @@ use borrow.Author.Rules.{rules}
 use Rattle.numbers.proofs.Int.{back}
 use Rattle.codec.specs.Number.{number_bytes, signed_code}
 use Rattle.codec.proofs.NumberLaws.{number_length}
-use Rattle.codec.proofs.WeightLaws.{weights, weight_at, weights_zero, weights_more, weights_most, vector_parts}
+use Rattle.codec.proofs.WeightLaws.{weight_at, weights_zero, weights_more, weights_most, vector_parts}
 use Rattle.writing.proofs.length.vector_length.Goals as goal
 use Rattle.writing.proofs.length.vector_length.Goals.{After-number_length-length}
 

@@ -1,11 +1,11 @@
 -- `put::put_bits` meets its contract. The loop's invariant: the first i bytes stand from the position on, and the buffer is as long as it
 -- was. The measure is the number of bytes left. Assumes nothing.
 use mathlib.Core.Path.{◌≡◌, ◌∙◌}
-use Prim.Native.Nat.{◌+◌, ◌-◌, ◌≤◌}
+use Prim.Native.Nat.{◌+◌, ◌≤◌}
 use native.Mathlib.Numerals.{add-one}
 use native.Mathlib.Omega.{arith}
 use lib.ListN.{length, take}
-use lib.Seq.{length-take-le, paste, paste-zero, paste-suc}
+use lib.Seq.{length-take-le, paste-zero, paste-suc}
 use borrow.Author.Rules.{rules}
 use Rattle.codec.proofs.WrittenLaws.{written_copy}
 use Rattle.writing.proofs.put.put_bits.Goals as goal

@@ -1,7 +1,6 @@
 -- `put::put_kind` meets its contract: one byte, stored. Assumes nothing.
 use mathlib.Core.Path.{refl}
 use native.Mathlib.Omega.{arith}
-use borrow.Author.Rules.{rules}
 use Rattle.codec.proofs.WrittenLaws.{written_one}
 use Rattle.writing.proofs.put.put_kind.Goals as goal
 

@@ -6,7 +6,6 @@ use native.Mathlib.Numerals.{add-one}
 use native.Mathlib.Omega.{arith}
 use lib.ListN.{length, length-set}
 use lib.Seq.{sets}
-use borrow.Author.Rules.{rules}
 use Rattle.codec.specs.Written.{written_at}
 use Rattle.codec.specs.Number.{number_bytes}
 use Rattle.codec.proofs.NumberLaws.{number_one, number_two, number_three, number_length}

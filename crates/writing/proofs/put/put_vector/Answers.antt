@@ -3,7 +3,7 @@
 use mathlib.Core.Path.{◌≡◌, sym, ◌∙◌, ap}
 use mathlib.Core.Bool.{true}
 use mathlib.Core.List.{List, ◌++◌}
-use Prim.Native.Nat.{ℕ, ◌+◌, ◌-◌, ◌≤◌, ◌<◌}
+use Prim.Native.Nat.{ℕ, ◌+◌, ◌≤◌, ◌<◌}
 use native.Mathlib.Omega.{arith}
 use lib.ListN.{length, get_or, length-append}
 use lib.IntN.{pos}
@@ -17,7 +17,6 @@ use Rattle.function.proofs.RangeLaws.{within_correct, in_range_correct, in_range
 use Rattle.codec.specs.Number.{number_bytes, signed_code}
 use Rattle.codec.specs.VectorField.{vector_bytes}
 use Rattle.codec.proofs.NumberLaws.{signed_small}
-use Rattle.codec.specs.Written.{Put}
 use Rattle.codec.proofs.WrittenLaws.{written_length, written_nil, written_room, written_next, next_room, next_written}
 use Rattle.codec.proofs.WeightLaws.{weights, weight_at, weights_zero, weights_more, vector_parts}
 use Rattle.writing.proofs.put.put_vector.Goals as goal
@@ -32,9 +31,6 @@ module _ (v : Vector) (fits : in_range weight_limit 8 v.a v.b ≡ true) where
   weight_small place h =
       let weight = get_or v.a place (pos 0) in
       signed_small weight ((within_correct weight_limit weight).1 (in_range_at ((in_range_correct weight_limit 8 v.a v.b).0 fits) place h))
-
-abbrev Start : Type 0
-Start = Start invariant-loop decreases-loop
 
 -- the bytes of the weights and of b, which there is room for
 abbrev a_bytes : Start → List ℕ
