@@ -1,5 +1,5 @@
 -- What `clear` leaves of the counts: where those past the rows that it clears are 0, all are. Assumes nothing.
-use Rattle.core.specs.Prelude.{◌≡◌, ℕ, ◌+◌, ◌-◌, ◌≤◌, List, length, get_or, drop}
+use Rattle.std.specs.Prelude.{◌≡◌, ℕ, ◌+◌, ◌-◌, ◌≤◌, List, length, get_or, drop}
 use mathlib.Core.Path.{sym, ◌∙◌, ap}
 use native.Mathlib.Decide.{dec_le}
 use native.Mathlib.Omega.{arith}

@@ -1,6 +1,6 @@
 -- Where the loop of `chunk` stands. Its state keeps the vectors that it came with; those of the machine are v and s, whose sums the loop has.
 -- With them the state stands where the machine does (`Unsettled` of UnsettledLaws), and v is small enough for places of 16 bits. Assumes nothing.
-use Rattle.core.specs.Prelude.{◌≡◌, ℕ, ◌+◌, ◌*◌, ◌<◌, ◌≤◌, Bool, true, List, length, ℤ}
+use Rattle.std.specs.Prelude.{◌≡◌, ℕ, ◌+◌, ◌*◌, ◌<◌, ◌≤◌, Bool, true, List, length, ℤ}
 use mathlib.Core.Path.{◌∙◌, ap}
 use native.Mathlib.Omega.{arith}
 use Rattle.types.specs.declared.table.Table.{Table}

@@ -1,7 +1,7 @@
 -- A loop that searches ahead, beside the machine: its state is the machine's after so many steps but for step 5: its search is made, and the
 -- stage that follows from it is not set yet. One pass of the loop is one step of the machine, and the ranges of the machine's state, which
 -- is sound, are those of the loop's, since a stage changes none of them. Assumes nothing.
-use Rattle.core.specs.Prelude.{◌≡◌, ℕ, ◌+◌, ◌<◌, ◌≤◌, Bool, true, false, eqb, ◌≢◌, get_or}
+use Rattle.std.specs.Prelude.{◌≡◌, ℕ, ◌+◌, ◌<◌, ◌≤◌, Bool, true, false, eqb, ◌≢◌, get_or}
 use mathlib.Core.Path.{refl, sym, ◌∙◌, ap, subst}
 use mathlib.Core.Option.{Option, some, none}
 use native.Mathlib.Numerals.{add-one}

@@ -1,5 +1,5 @@
 // A chunk of steps in the fast form: the vectors are sums in places of 16 bits, and become vectors again at its end.
-ghost use Rattle.core.specs.Prelude.{◌≡◌, ◌+◌, ◌<◌, ◌≤◌, ◌++◌, length, drop};
+ghost use Rattle.std.specs.Prelude.{◌≡◌, ◌+◌, ◌<◌, ◌≤◌, ◌++◌, length, drop};
 ghost use Rattle.numbers.specs.Tabulate.{tabulate, Holds};
 ghost use Rattle.lanes.specs.Sums.{magnitude};
 ghost use Rattle.correction.specs.Steps.{step_at};

@@ -1,6 +1,6 @@
 -- A record read by a reader that travels: its kind byte, what follows it, and the end. Each step's struct leaves what the next one needs, and
 -- a refusal is passed on to the last. Assumes nothing.
-use Rattle.core.specs.Prelude.{◌≡◌, ℕ, ◌+◌, Bool, true, false, cond, eqb, ltb, List, [], ◌∷◌, length, get_or}
+use Rattle.std.specs.Prelude.{◌≡◌, ℕ, ◌+◌, Bool, true, false, cond, eqb, ltb, List, [], ◌∷◌, length, get_or}
 use mathlib.Core.Path.{refl, ◌∙◌, ap}
 use Rattle.refusal.specs.Refusal.{Answered, rule, answered, refused, and_then, checked}
 use Rattle.codec.specs.Field.{Reading, field, onward}

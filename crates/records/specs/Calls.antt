@@ -1,5 +1,5 @@
 -- What reading a record gives (document 01, "Records" and "Who causes which number"). Definitions only. Assumes nothing.
-use Rattle.core.specs.Prelude.{ℕ, List, [], ◌∷◌}
+use Rattle.std.specs.Prelude.{ℕ, List, [], ◌∷◌}
 use Rattle.refusal.specs.Refusal.{Answered, answered, refused, and_then, checked}
 use Rattle.function.specs.Witness.{zeros}
 use Rattle.job.specs.declared.job.Job.{Job}

@@ -1,5 +1,5 @@
 // What follows a record's kind byte, read from a slice and a position, and the end.
-ghost use Rattle.core.specs.Prelude.{◌≡◌, ◌≤◌};
+ghost use Rattle.std.specs.Prelude.{◌≡◌, ◌≤◌};
 ghost use Rattle.numbers.specs.Power.{highest};
 ghost use Rattle.table.specs.Table.{rows_of};
 ghost use Rattle.refusal.specs.Refusal.{refused};

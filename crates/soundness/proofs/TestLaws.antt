@@ -1,5 +1,5 @@
 -- Tests that stand one after the other: the second decides where the first passes. Assumes nothing.
-use Rattle.core.specs.Prelude.{◌≡◌, Bool, true, false, ◌&&◌}
+use Rattle.std.specs.Prelude.{◌≡◌, Bool, true, false, ◌&&◌}
 use mathlib.Core.Path.{sym, ◌∙◌}
 
 -- where the first of two tests passes the second decides

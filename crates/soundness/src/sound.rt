@@ -1,5 +1,5 @@
 // The test that a state is sound on a table, whatever it holds.
-ghost use Rattle.core.specs.Prelude.{◌≡◌, ◌<◌, ◌≤◌, true, false, not, ◌&&◌, ◌||◌, length, drop, ◌==◌, nat_le};
+ghost use Rattle.std.specs.Prelude.{◌≡◌, ◌<◌, ◌≤◌, true, false, not, ◌&&◌, ◌||◌, length, drop, ◌==◌, nat_le};
 ghost use Rattle.numbers.specs.Tests.{all_at_most, is_some};
 ghost use Rattle.table.specs.Table.{rows, function_of};
 ghost use Rattle.table.specs.Gate.{in_range};

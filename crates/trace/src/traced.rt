@@ -1,5 +1,5 @@
 // How a job came to its vector: the counts of its rows since the mark, summed and compared. Sums are of 64 bits, so that none wraps.
-ghost use Rattle.core.specs.Prelude.{◌≡◌, ◌^◌, ◌<◌, ◌≤◌, pos, ◌+ℤ◌};
+ghost use Rattle.std.specs.Prelude.{◌≡◌, ◌^◌, ◌<◌, ◌≤◌, pos, ◌+ℤ◌};
 ghost use Rattle.numbers.specs.Tests.{same_z};
 ghost use Rattle.table.specs.Table.{function_of};
 ghost use Rattle.table.specs.Witness.{CountArray};

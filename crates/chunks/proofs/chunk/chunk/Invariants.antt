@@ -1,6 +1,6 @@
 -- `chunks::chunk::chunk` meets its contract. The loop's invariant is `Going` of ChunkLaws, which has the laws of a pass; the measure is what
 -- is left of the budget. Assumes nothing.
-use Rattle.core.specs.Prelude.{◌≡◌, ◌+◌, ◌-◌, ◌/◌, ◌<◌, ◌≤◌, ◌≢◌}
+use Rattle.std.specs.Prelude.{◌≡◌, ◌+◌, ◌-◌, ◌/◌, ◌<◌, ◌≤◌, ◌≢◌}
 use mathlib.Core.Path.{refl, sym, ◌∙◌, ap, ap₂}
 use mathlib.Core.Logic.{⊎_elim}
 use native.Mathlib.Omega.{arith}

@@ -1,6 +1,6 @@
 -- `chunks::chunk::clear` meets its contract. The loop's invariant: the counts of the rows below `row` are 0. The measure is the number of rows
 -- left. Assumes nothing.
-use Rattle.core.specs.Prelude.{◌≡◌, ℕ}
+use Rattle.std.specs.Prelude.{◌≡◌, ℕ}
 use mathlib.Core.Path.{refl, ◌∙◌, ap}
 use native.Mathlib.Omega.{arith}
 use lib.ListN.{length-set}

@@ -1,6 +1,6 @@
 -- `chunks::chunk::clear` meets its contract. The loop's invariant: the counts of the rows below `row` are 0. The measure is the number of rows
 -- left. Assumes nothing.
-use Rattle.core.specs.Prelude.{◌≡◌, ℕ, ◌-◌, ◌≤◌, length}
+use Rattle.std.specs.Prelude.{◌≡◌, ℕ, ◌-◌, ◌≤◌, length}
 use Rattle.numbers.proofs.TabulateLaws.{filled}
 use Rattle.chunks.proofs.chunk.clear.Given as goal
 

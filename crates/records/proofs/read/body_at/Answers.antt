@@ -1,6 +1,6 @@
 -- `records::read::body_at` meets its contract: a refused kind by its number, the table by `read_table`, and what follows it by each family's
 -- own function. Assumes nothing.
-use Rattle.core.specs.Prelude.{◌≡◌, ℕ, ◌≤◌, Bool, List}
+use Rattle.std.specs.Prelude.{◌≡◌, ℕ, ◌≤◌, Bool, List}
 use mathlib.Core.Path.{refl, sym, ◌∙◌, ap}
 use borrow.Author.Rules.{rules}
 use Rattle.types.specs.declared.kind.Kind.{Kind}

@@ -1,5 +1,5 @@
 -- `records::read::end_at` meets its contract: a refusal is passed on, and bytes are left or not. Assumes nothing.
-use Rattle.core.specs.Prelude.{◌≡◌, ℕ, ◌<◌, ◌≤◌, Bool, ltb, List, length}
+use Rattle.std.specs.Prelude.{◌≡◌, ℕ, ◌<◌, ◌≤◌, Bool, ltb, List, length}
 use mathlib.Core.Path.{refl, ◌∙◌, ap}
 use borrow.Author.Tests.{lt-ltb, le-ltb}
 use Rattle.refusal.specs.Refusal.{Answered, answered, refused, refuse_if}

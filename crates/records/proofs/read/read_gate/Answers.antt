@@ -1,6 +1,6 @@
 -- `records::read::read_gate` meets its contract: the weights and T by `read_vector`, and the gate that they make. Assumes nothing.
 use mathlib.Core.Path.{◌∙◌, ap}
-use Rattle.core.specs.Prelude.{ℕ, true}
+use Rattle.std.specs.Prelude.{ℕ, true}
 use Rattle.types.specs.declared.table.Table.{Table}
 use Rattle.refusal.specs.Refusal.{answered}
 use Rattle.types.specs.declared.vector.Vector.{Vector}

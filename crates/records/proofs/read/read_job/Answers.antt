@@ -1,6 +1,6 @@
 -- `records::read::read_job` meets its contract: K by `read_number`, v and s by `read_vector`, each from where the one before it ended, and
 -- the rest by `read_counts`. Assumes nothing.
-use Rattle.core.specs.Prelude.{◌≡◌, ℕ, false, List}
+use Rattle.std.specs.Prelude.{◌≡◌, ℕ, false, List}
 use mathlib.Core.Path.{◌∙◌, ap}
 use borrow.Author.Rules.{rules}
 use Rattle.types.specs.declared.table.Table.{Table}

@@ -1,5 +1,5 @@
 -- `records::read::read_witness` meets its contract: the counts by `read_rows`, and the witness that they are. Assumes nothing.
-use Rattle.core.specs.Prelude.{◌≡◌, ℕ, true, List}
+use Rattle.std.specs.Prelude.{◌≡◌, ℕ, true, List}
 use mathlib.Core.Path.{◌∙◌, ap}
 use native.Mathlib.Omega.{arith}
 use Rattle.types.specs.declared.table.Table.{Table}

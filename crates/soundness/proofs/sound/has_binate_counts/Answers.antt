@@ -1,5 +1,5 @@
 -- `sound::has_binate_counts` meets its contract, by what the search for a binate input has found. Assumes nothing.
-use Rattle.core.specs.Prelude.{◌≡◌, ℕ}
+use Rattle.std.specs.Prelude.{◌≡◌, ℕ}
 use mathlib.Core.Path.{sym, ◌∙◌, ap}
 use mathlib.Core.Option.{Option, some}
 use Rattle.function.proofs.BinateLaws.{binate_place_lt}

@@ -1,6 +1,6 @@
 -- `sound::is_sound` meets its contract: the array lengths are facts of the code's types, and the other tests stand one after the other.
 -- Assumes nothing.
-use Rattle.core.specs.Prelude.{◌≡◌, Bool, true, ◌&&◌, eqb, leb, length, drop}
+use Rattle.std.specs.Prelude.{◌≡◌, Bool, true, ◌&&◌, eqb, leb, length, drop}
 use mathlib.Core.Path.{refl, sym, ◌∙◌}
 use mathlib.Core.Bool.{and_assoc}
 use native.Mathlib.Nat.{one-mul}

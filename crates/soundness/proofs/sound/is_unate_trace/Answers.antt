@@ -1,6 +1,6 @@
 -- `sound::is_unate_trace` meets its contract: the two tests, one after the other. Assumes nothing.
 use mathlib.Core.Path.{refl, ◌∙◌, ap}
-use Rattle.core.specs.Prelude.{not}
+use Rattle.std.specs.Prelude.{not}
 use borrow.Author.Tests.{not-true, not-false}
 use Rattle.table.specs.Inputs.{is_found}
 use Rattle.table.proofs.InputLaws.{is_found_lowest}

@@ -1,5 +1,5 @@
 -- `sound::keeps_rows` meets its contract: the two tests, one after the other. Assumes nothing.
-use Rattle.core.specs.Prelude.{◌≡◌, ℕ, drop}
+use Rattle.std.specs.Prelude.{◌≡◌, ℕ, drop}
 use mathlib.Core.Path.{◌∙◌, ap}
 use native.Mathlib.Omega.{arith}
 use borrow.Author.Rules.{rules}

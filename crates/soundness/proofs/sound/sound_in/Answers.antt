@@ -1,5 +1,5 @@
 -- `sound::sound_in` meets its contract, stage by stage: what the stage asks is tested after the trace. Assumes nothing.
-use Rattle.core.specs.Prelude.{◌≡◌, Bool, true, false, not, ◌&&◌, ◌||◌, eqb, leb}
+use Rattle.std.specs.Prelude.{◌≡◌, Bool, true, false, not, ◌&&◌, ◌||◌, eqb, leb}
 use mathlib.Core.Path.{refl, sym, ◌∙◌, ap}
 use mathlib.Core.Bool.{and_assoc}
 use borrow.Author.Rules.{rules}

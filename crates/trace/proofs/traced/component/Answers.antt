@@ -1,6 +1,6 @@
 -- `traced::component` meets its contract: at 64 bits a component of 32 bits and the negation of b are read back as they are.
 -- Assumes nothing.
-use Rattle.core.specs.Prelude.{◌≡◌, suc, ◌-◌, get_or, ℤ, pos, ◌-ℤ◌, neg_ℤ}
+use Rattle.std.specs.Prelude.{◌≡◌, suc, ◌-◌, get_or, ℤ, pos, ◌-ℤ◌, neg_ℤ}
 use mathlib.Core.Path.{sym, ◌∙◌, ap}
 use native.Mathlib.Omega.{arith}
 use lib.IntN.{+ℤ_idl}

@@ -1,6 +1,6 @@
 -- The loop's invariant: v is s with what the sums add and take away at each input below `input`. The measure is what is left of the inputs 0
 -- to n. Assumes nothing.
-use Rattle.core.specs.Prelude.{◌≡◌, ℕ, ◌+◌, ◌-◌, ◌≤◌, Bool, true, List, get_or, pos, ◌+ℤ◌}
+use Rattle.std.specs.Prelude.{◌≡◌, ℕ, ◌+◌, ◌-◌, ◌≤◌, Bool, true, List, get_or, pos, ◌+ℤ◌}
 use Rattle.numbers.specs.Tests.{all_below, same_z}
 use Rattle.types.specs.declared.vector.Vector.{Vector}
 use Rattle.function.specs.Vector.{component}

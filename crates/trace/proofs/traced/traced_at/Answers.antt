@@ -1,6 +1,6 @@
 -- `traced::traced_at` meets its contract: a component is at most 2^31 in size and a sum of counts below 2^40, so that 64 bits hold what is
 -- added, and integers of equal bits are equal. Assumes nothing.
-use Rattle.core.specs.Prelude.{◌≡◌, ℕ, ◌+◌, ◌^◌, ◌<◌, ◌≤◌, ℤ, pos, ◌+ℤ◌}
+use Rattle.std.specs.Prelude.{◌≡◌, ℕ, ◌+◌, ◌^◌, ◌<◌, ◌≤◌, ℤ, pos, ◌+ℤ◌}
 use mathlib.Core.Path.{◌∙◌, ap₂}
 use native.Mathlib.Omega.{arith}
 use mir.Syntax.{w64}
