@@ -1,6 +1,6 @@
 -- What the test of a job (`job_status`) says of every call's rules, which begin with the job's: callers cite these laws and not the rules'
 -- text. Assumes nothing.
-use Rattle.core.specs.Prelude.{◌≡◌, ℕ, ◌≤◌, true, not, ◌≢◌, List, [], ◌∷◌}
+use Rattle.std.specs.Prelude.{◌≡◌, ℕ, ◌≤◌, true, not, ◌≢◌, List, [], ◌∷◌}
 use mathlib.Core.Path.{refl, sym, ◌∙◌, ap}
 use borrow.Author.Tests.{not-false}
 use Rattle.refusal.specs.declared.refusal.Status.{Status}

@@ -1,5 +1,5 @@
 -- Laws of the stepping machine on a job: those of its state (`state`), and that the table stays. Assumes nothing.
-use Rattle.core.specs.Prelude.{◌≡◌, ℕ, suc, ◌+◌, ◌≢◌}
+use Rattle.std.specs.Prelude.{◌≡◌, ℕ, suc, ◌+◌, ◌≢◌}
 use mathlib.Core.Path.{refl}
 use mathlib.Core.Option.{some}
 use Rattle.types.specs.declared.table.Table.{Table}

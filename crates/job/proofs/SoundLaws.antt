@@ -1,5 +1,5 @@
 -- A sound job: the computed test with its meaning, and what code takes from it, by the laws of its state. Assumes nothing.
-use Rattle.core.specs.Prelude.{◌≡◌, ℕ, ◌≤◌, true, ◌≢◌, ◌↔◌, get_or}
+use Rattle.std.specs.Prelude.{◌≡◌, ℕ, ◌≤◌, true, ◌≢◌, ◌↔◌, get_or}
 use mathlib.Core.Path.{refl}
 use Rattle.types.specs.declared.table.Table.{Table}
 use Rattle.types.specs.declared.state.State.{State}

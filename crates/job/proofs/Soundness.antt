@@ -1,5 +1,5 @@
 -- The machine's jobs are sound, and K counts the steps, by the laws of the state. Assumes nothing.
-use Rattle.core.specs.Prelude.{◌≡◌, ℕ, ◌+◌, ◌<◌, ◌≤◌}
+use Rattle.std.specs.Prelude.{◌≡◌, ℕ, ◌+◌, ◌<◌, ◌≤◌}
 use Rattle.types.specs.declared.table.Table.{Table}
 use Rattle.types.specs.declared.stage.Stage.TheVariants.{Open}
 use Rattle.table.proofs.TableLaws.{table_fits}

@@ -1,6 +1,6 @@
 -- The calls on a job: for each its rules in their order, and its answer (document 01, "The stepping machine" and "Who causes which
 -- number"). Definitions only. Assumes nothing.
-use Rattle.core.specs.Prelude.{ℕ, ◌+◌, ◌-◌, not, ◌||◌, List, [], ◌∷◌, replicate, pos, ◌==◌, nat_lt}
+use Rattle.std.specs.Prelude.{ℕ, ◌+◌, ◌-◌, not, ◌||◌, List, [], ◌∷◌, replicate, pos, ◌==◌, nat_lt}
 use Rattle.types.specs.declared.table.Table.{Table}
 use Rattle.types.specs.declared.gate.Gate.{Gate}
 use Rattle.types.specs.declared.vector.Vector.{Vector}

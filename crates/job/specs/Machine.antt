@@ -1,6 +1,6 @@
 -- The stepping machine on a job, which is a table with the machine's state on it (document 01, "The stepping machine"). Definitions only.
 -- Assumes nothing.
-use Rattle.core.specs.Prelude.{ℕ, List}
+use Rattle.std.specs.Prelude.{ℕ, List}
 use Rattle.types.specs.declared.table.Table.{Table}
 use Rattle.types.specs.declared.stage.Stage.{Stage}
 use Rattle.state.specs.Machine as machine

@@ -1,6 +1,6 @@
 -- A sound job (document 01, "The stepping machine"): its state is sound on its table; and the test that code computes. `is_sound_correct` of proofs/
 -- joins the two. Definitions only. Assumes nothing.
-use Rattle.core.specs.Prelude.{Bool}
+use Rattle.std.specs.Prelude.{Bool}
 use Rattle.state.specs.Sound as state
 use Rattle.job.specs.declared.job.Job.{Job}
 use Rattle.table.specs.Table.{function_of}

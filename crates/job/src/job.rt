@@ -1,5 +1,5 @@
 // A job: the state of the stepping machine on one table, made fresh and carried on.
-ghost use Rattle.core.specs.Prelude.{◌≡◌};
+ghost use Rattle.std.specs.Prelude.{◌≡◌};
 ghost use Rattle.refusal.specs.Answers.{status};
 ghost use Rattle.refusal.specs.Refusal.{refused};
 ghost use Rattle.job.specs.Calls.{job_checked, fresh_job, started, decided_job, carry_on, carried};

@@ -1,5 +1,5 @@
 // A table decided: by a table of steps that was made before, once for many tables, or alone.
-ghost use Rattle.core.specs.Prelude.{◌≡◌, ◌≤◌};
+ghost use Rattle.std.specs.Prelude.{◌≡◌, ◌≤◌};
 ghost use Rattle.numbers.specs.Tabulate.{Holds};
 ghost use Rattle.correction.specs.Steps.{step_at};
 ghost use Rattle.state.specs.Machine.{run, fresh, call_budget};

@@ -1,5 +1,5 @@
 // The state that a table starts with.
-ghost use Rattle.core.specs.Prelude.{◌≡◌, ◌≤◌};
+ghost use Rattle.std.specs.Prelude.{◌≡◌, ◌≤◌};
 ghost use Rattle.state.specs.Machine.{start_state, fresh};
 ghost use Rattle.numbers.specs.Tests.{is_some};
 ghost use Rattle.function.specs.Failing.{failing};

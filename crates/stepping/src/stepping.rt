@@ -1,5 +1,5 @@
 // The machine's steps, one after another.
-ghost use Rattle.core.specs.Prelude.{◌≡◌, ◌+◌, ◌-◌, ◌<◌, ◌≤◌, true};
+ghost use Rattle.std.specs.Prelude.{◌≡◌, ◌+◌, ◌-◌, ◌<◌, ◌≤◌, true};
 ghost use Rattle.numbers.specs.Tabulate.{Holds};
 ghost use Rattle.table.specs.Gate.{weight_limit, in_range};
 ghost use Rattle.lanes.specs.Sums.{magnitude};

@@ -1,5 +1,5 @@
 -- `job::job::job_status` meets its contract: the table's rules first, by `table_status`, and then that the job is sound. Assumes nothing.
-use Rattle.core.specs.Prelude.{◌≡◌, Bool, not, List, [], ◌∷◌}
+use Rattle.std.specs.Prelude.{◌≡◌, Bool, not, List, [], ◌∷◌}
 use mathlib.Core.Path.{sym, ◌∙◌, ap}
 use borrow.Author.Rules.{rules}
 use Rattle.refusal.specs.Answers.{status}

@@ -1,6 +1,6 @@
 -- `stepping::decided::decided_alone` meets its contract: the fresh state of a table is sound, and one that has ended stays as it is. Assumes
 -- nothing.
-use Rattle.core.specs.Prelude.{◌≡◌}
+use Rattle.std.specs.Prelude.{◌≡◌}
 use mathlib.Core.Path.{sym, ◌∙◌, ap, subst}
 use native.Mathlib.Omega.{arith}
 use borrow.Author.Rules.{rules}

@@ -1,6 +1,6 @@
 -- `stepping::start::fresh_state` meets its contract: the state by the search for a binate input, and for a row that is cared for. Assumes
 -- nothing.
-use Rattle.core.specs.Prelude.{◌≡◌, ℕ, true, false, List}
+use Rattle.std.specs.Prelude.{◌≡◌, ℕ, true, false, List}
 use mathlib.Core.Path.{refl, sym, ◌∙◌, ap}
 use mathlib.Core.Option.{Option, some, none}
 use borrow.Author.Rules.{rules}

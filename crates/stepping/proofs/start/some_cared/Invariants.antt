@@ -1,6 +1,6 @@
 -- `stepping::start::some_cared` meets its contract: at the vector 0 a row fails exactly if it is cared for. The loop's invariant: no row below
 -- `row` is cared for. The measure is what is left of the rows. Assumes nothing.
-use Rattle.core.specs.Prelude.{◌≡◌, ℕ, ◌-◌, ◌<◌, ◌≤◌, false}
+use Rattle.std.specs.Prelude.{◌≡◌, ℕ, ◌-◌, ◌<◌, ◌≤◌, false}
 use Rattle.table.specs.Table.{cared}
 use Rattle.stepping.proofs.start.some_cared.Given as goal
 

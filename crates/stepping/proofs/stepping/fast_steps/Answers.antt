@@ -1,6 +1,6 @@
 -- `stepping::stepping::fast_steps` meets its contract. The loop's invariant: the state is the machine's but for the steps that are left (`Left` of
 -- LeftLaws). The measure is what is left. Assumes nothing.
-use Rattle.core.specs.Prelude.{◌≡◌, ◌<◌, ◌≤◌}
+use Rattle.std.specs.Prelude.{◌≡◌, ◌<◌, ◌≤◌}
 use mathlib.Core.Path.{refl}
 use native.Mathlib.Omega.{arith}
 use Rattle.lanes.specs.Sums.{magnitude}

@@ -1,7 +1,7 @@
 -- `stepping::stepping::plain_steps` meets its contract. The loop's invariant: its state stands where the machine does after `made` steps
 -- (`Unsettled` of UnsettledLaws), `next` is what the search by its vector found, and `made` is at most the budget. The measure is what is
 -- left of the budget. Assumes nothing.
-use Rattle.core.specs.Prelude.{◌≡◌, ℕ, ◌-◌, ◌≤◌}
+use Rattle.std.specs.Prelude.{◌≡◌, ℕ, ◌-◌, ◌≤◌}
 use Rattle.table.specs.declared.lowest.Lowest.{Lowest}
 use Rattle.table.specs.Table.{function_of}
 use Rattle.table.specs.Inputs.{lowest_of}

@@ -1,6 +1,6 @@
 -- `stepping::stepping::run` meets its contract: what the fast form leaves, the plain one makes. Assumes nothing.
 use mathlib.Core.Path.{sym, ◌∙◌, ap, subst}
-use Rattle.core.specs.Prelude.{◌≡◌, ℕ, ◌-◌, ◌≤◌}
+use Rattle.std.specs.Prelude.{◌≡◌, ℕ, ◌-◌, ◌≤◌}
 use native.Mathlib.Omega.{arith}
 use borrow.Author.Rules.{rules}
 use Rattle.types.specs.declared.table.Table.{Table}

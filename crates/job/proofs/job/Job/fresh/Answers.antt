@@ -1,5 +1,5 @@
 -- `job::job::Job::fresh` meets its contract: the table's rules first, by `table_status`, and then the job. Assumes nothing.
-use Rattle.core.specs.Prelude.{◌≡◌, []}
+use Rattle.std.specs.Prelude.{◌≡◌, []}
 use mathlib.Core.Path.{◌∙◌, ap}
 use borrow.Author.Rules.{rules}
 use Rattle.refusal.specs.Refusal.{answered}
