@@ -3,7 +3,6 @@
 use mathlib.Core.Path.{◌≡◌}
 use Prim.Native.Nat.{ℕ, ◌-◌, ◌≤◌}
 use lib.ListN.{length}
-use Rattle.table.specs.Table.{rows}
 use Rattle.arrays.proofs.CopyLaws.{copied}
 use Rattle.arrays.proofs.taken.put_counts.Given as goal
 

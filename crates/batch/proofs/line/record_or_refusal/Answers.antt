@@ -1,16 +1,14 @@
 -- `line::record_or_refusal` meets its contract: what the reader gave leaves one of the two lines. Assumes nothing.
 use mathlib.Core.Path.{◌≡◌, sym, ap}
-use Prim.Native.Nat.{◌+◌, ◌≤◌}
+use Prim.Native.Nat.{◌≤◌}
 use Rattle.refusal.specs.Refusal.{answered}
 use Rattle.refusal.proofs.TableChecked.{kept_inputs}
 use Rattle.codec.specs.Field.{Field, field}
 use Rattle.types.specs.declared.table.Table.{Table}
-use Rattle.types.specs.declared.state.State.{State}
 use Rattle.codec.specs.TableField.{table_record_at}
 use Rattle.codec.proofs.TableFieldLaws.{record_read}
 use Rattle.reading.specs.declared.tables.TableField.{TableField}
 use Rattle.reading.proofs.FieldFacts.{table_refused, table_done}
-use Rattle.job.specs.declared.job.Job.{Job}
 use Rattle.job.specs.Machine.{run, fresh, decided}
 use Rattle.batch.specs.Progress.{advance_by}
 use Rattle.batch.proofs.AdvanceLaws.{made_by, record_made}

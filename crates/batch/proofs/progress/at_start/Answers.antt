@@ -1,6 +1,5 @@
 -- `progress::at_start` meets its contract. Assumes nothing.
 use mathlib.Core.Path.{ap}
-use borrow.Author.Rules.{rules}
 use Rattle.reporting.specs.declared.tally.Tally.{Tally}
 use Rattle.batch.specs.declared.progress.Phase.TheVariants.{Records}
 use Rattle.batch.specs.Progress.{progress}

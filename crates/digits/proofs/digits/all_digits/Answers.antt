@@ -1,7 +1,6 @@
 -- `digits::all_digits` meets its contract. The loop's invariant: each character below `at` is a digit. The measure is what is left of them.
 -- Assumes nothing.
 use mathlib.Core.Path.{◌≡◌, sym, ◌∙◌, ap}
-use mathlib.Core.Bool.{true}
 use Prim.Native.Nat.{ℕ}
 use native.Mathlib.Omega.{arith}
 use lib.ListN.{length, get_or}

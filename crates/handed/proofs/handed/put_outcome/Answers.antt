@@ -10,7 +10,6 @@ use mathlib.Core.List.{List, [], ◌∷◌}
 use Prim.Native.Nat.{ℕ, ◌≤◌}
 use native.Mathlib.Omega.{arith}
 use lib.ListN.{length}
-use borrow.Author.Rules.{rules}
 use Rattle.refusal.specs.Refusal.{Answered}
 use Rattle.refusal.proofs.TableChecked.{kept_inputs}
 use Rattle.refusal.specs.Refusal.{NoneBroken}

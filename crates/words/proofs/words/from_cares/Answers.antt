@@ -2,7 +2,6 @@
 use mir.Syntax.{w64}
 use Rattle.numbers.proofs.Int.{back}
 use mathlib.Core.Path.{refl, sym, ◌∙◌, ap₂}
-use mathlib.Core.Bool.{false}
 use mathlib.Core.List.{List, [], ◌∷◌}
 use Prim.Native.Nat.{ℕ}
 use lib.ListN.{length}
