@@ -1,6 +1,7 @@
 // The claims, a function for each: its contract is the statement, and its body does nothing. So a claim without a proof fails the
 // check, and a check prints a line for each.
 #![tactic(auto)]
+
 ghost use Rattle.theory.specs.Cases.{MarkedCases};
 ghost use Rattle.records.specs.Record.{of_table, of_gate, of_witness, of_job};
 ghost use Rattle.claims.specs.Lists.{CallsAreTheMachine};

@@ -14,10 +14,10 @@ use Rattle.claims.proofs.job_numbers_on_their_conditions.Goals as goal
 pub returns : goal.returns
 returns c =
     record {
-  fresh_job_lem = λ t. by_rules (table_rules t []) (fresh t);
-  decided = λ t. by_rules (table_rules t []) (decided t);
-  carry_on_lem = carry_on_open;
-  carry_on_ended = carry_on_ended;
-  row_fails_lem = λ j r. by_rules (job_rules j (past_rows j.table.n r ∷ [])) (fails (function_of j.table) j.state.v r);
-  show_job_lem = λ j. by_rules (job_rules j []) (shown_in j.state.stage j);
-}
+      fresh_job_lem = λ t. by_rules (table_rules t []) (fresh t);
+      decided = λ t. by_rules (table_rules t []) (decided t);
+      carry_on_lem = carry_on_open;
+      carry_on_ended = carry_on_ended;
+      row_fails_lem = λ j r. by_rules (job_rules j (past_rows j.table.n r ∷ [])) (fails (function_of j.table) j.state.v r);
+      show_job_lem = λ j. by_rules (job_rules j []) (shown_in j.state.stage j);
+    }

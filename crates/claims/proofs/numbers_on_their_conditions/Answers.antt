@@ -14,10 +14,10 @@ use Rattle.claims.proofs.numbers_on_their_conditions.Goals as goal
 pub returns : goal.returns
 returns c =
     record {
-  table_value_lem = λ t r. by_rules (table_value_rules t r) (value t r);
-  gate_value_lem = λ g r. by_rules (gate_value_rules g r) (gate_true g.weights g.threshold (level 2 r));
-  check_gate_lem = λ t g. by_rules (check_gate_rules t g) (realises g.weights g.threshold (function_of t));
-  check_witness_lem = λ t w. by_rules (check_witness_rules t w) (balances (function_of t) (count_of w.counts));
-  input_kinds_lem = λ t. by_rules (table_rules t []) (kinds_of t);
-  chow_parameters_lem = λ t. by_rules (table_rules t []) (chow_of t);
-}
+      table_value_lem = λ t r. by_rules (table_value_rules t r) (value t r);
+      gate_value_lem = λ g r. by_rules (gate_value_rules g r) (gate_true g.weights g.threshold (level 2 r));
+      check_gate_lem = λ t g. by_rules (check_gate_rules t g) (realises g.weights g.threshold (function_of t));
+      check_witness_lem = λ t w. by_rules (check_witness_rules t w) (balances (function_of t) (count_of w.counts));
+      input_kinds_lem = λ t. by_rules (table_rules t []) (kinds_of t);
+      chow_parameters_lem = λ t. by_rules (table_rules t []) (chow_of t);
+    }

@@ -13,9 +13,9 @@ use Rattle.claims.proofs.records_are_written.Goals as goal
 pub returns : goal.returns
 returns c =
     record {
-  numbers = λ x room. by_rules (record_rules x (too_short room (record_bytes x) ∷ [])) (record_bytes x);
-  record_stands = λ x out bytes e. ap (λ (a : Answered (List ℕ)). take (length bytes) (lent out a)) e ∙ lent_start out bytes;
-  past_kept = λ x out bytes e. ap (λ (a : Answered (List ℕ)). drop (length bytes) (lent out a)) e ∙ lent_past out bytes;
-  length_kept = lent_length;
-  refused_kept = λ x out n e. ap (lent out) e;
-}
+      numbers = λ x room. by_rules (record_rules x (too_short room (record_bytes x) ∷ [])) (record_bytes x);
+      record_stands = λ x out bytes e. ap (λ (a : Answered (List ℕ)). take (length bytes) (lent out a)) e ∙ lent_start out bytes;
+      past_kept = λ x out bytes e. ap (λ (a : Answered (List ℕ)). drop (length bytes) (lent out a)) e ∙ lent_past out bytes;
+      length_kept = lent_length;
+      refused_kept = λ x out n e. ap (lent out) e;
+    }

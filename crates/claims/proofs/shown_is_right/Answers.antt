@@ -5,8 +5,8 @@ use Rattle.claims.proofs.shown_is_right.Goals as goal
 pub returns : goal.returns
 returns c =
     record {
-  gate = shown_gate;
-  gate_accepted = shown_gate_accepted;
-  witness_accepted = shown_witness_accepted;
-  no_gate_lem = shown_excludes;
-}
+      gate = shown_gate;
+      gate_accepted = shown_gate_accepted;
+      witness_accepted = shown_witness_accepted;
+      no_gate_lem = shown_excludes;
+    }

@@ -7,7 +7,7 @@ use Rattle.claims.proofs.soundness_is_kept.Goals as goal
 pub returns : goal.returns
 returns c =
     record {
-  test = is_sound_correct;
-  step = λ j taken. step_sound j (kept_inputs j.table taken);
-  reached = λ t taken. run_sound t (kept_inputs t taken);
-}
+      test = is_sound_correct;
+      step = λ j taken. step_sound j (kept_inputs j.table taken);
+      reached = λ t taken. run_sound t (kept_inputs t taken);
+    }
