@@ -1,4 +1,4 @@
--- an array that a loop copies into
+-- an array that a list is copied into
 pub mod CopyLaws
--- the numbers of a gate, put into what is lent, or refused
+-- the numbers of a gate, put into what is lent, and returned
 pub mod PutLaws

@@ -13,11 +13,7 @@ fn eight_weights(weights: &[i32]) -> [i32; 8]
     ensures { result ≡ padded 8 (pos 0) weights.now }
 {
     let mut own = [0i32; 8];
-    let mut place: usize = 0;
-    while place < weights.len() {
-        own[place] = weights[place];
-        place = place + 1;
-    }
+    own[..weights.len()].copy_from_slice(weights);
     own
 }
 
@@ -27,11 +23,7 @@ fn all_counts(counts: &[u32]) -> [u32; 256]
     ensures { result ≡ padded 256 0 counts.now }
 {
     let mut own = [0u32; 256];
-    let mut row: usize = 0;
-    while row < counts.len() {
-        own[row] = counts[row];
-        row = row + 1;
-    }
+    own[..counts.len()].copy_from_slice(counts);
     own
 }
 

@@ -4,7 +4,6 @@ use mathlib.Core.List.{List, []}
 use Prim.Native.Nat.{ℕ, ◌+◌, ◌≤◌, ◌<◌}
 use lib.ListN.{length}
 use borrow.Author.Tests.{lt-ltb, le-ltb}
-use Rattle.refusal.specs.Refusal.{answered}
 use Rattle.job.specs.declared.job.Job.{Job}
 use Rattle.codec.specs.Field.{Field}
 use Rattle.codec.specs.Written.{Put}
@@ -17,7 +16,7 @@ use Rattle.reporting.specs.Report.{input_most, counted}
 use Rattle.batch.specs.declared.progress.Phase.TheVariants.{Records, Last, Done}
 use Rattle.batch.specs.declared.progress.Progress.{Progress}
 use Rattle.batch.specs.declared.line.Line.{Line}
-use Rattle.batch.specs.Progress.{Advance, Made, progress, Bounded, advance_by, last_of, advance}
+use Rattle.batch.specs.Progress.{Advance, Made, progress, Bounded, advance_by, decided_of, last_of, advance}
 use Rattle.batch.proofs.ReportLaws.{bounded_next}
 
 -- a line that was made by a case is the line
@@ -25,9 +24,9 @@ pub made_by : {a b : Advance} (old : List ℕ) {new : List ℕ} {r : Line} → a
 made_by old {new} {r} e made = subst (λ (x : Advance). Made x old new r) e made
 
 -- the line of a record's job and the tally with it
-pub record_made : (at : ℕ) (t : Tally) (f : Field Table) (old : List ℕ) {j : Job} {u : Tally} {n : ℕ} {new : List ℕ} → j ≡ decided f.value → u ≡ counted j.state.stage j.state.k t
-    → Put old 0 (record_line (t.records + 1) j) new n → Made (advance_by at t (answered f)) old new (record { length = n; next = progress f.next u Records })
-record_made at t f old e q put = rw (← e) (put, ap (λ (u : Tally). progress f.next u Records) q)
+pub record_made : (t : Tally) (f : Field Table) (old : List ℕ) {j : Job} {u : Tally} {n : ℕ} {new : List ℕ} → j ≡ decided f.value → u ≡ counted j.state.stage j.state.k t
+    → Put old 0 (record_line (t.records + 1) j) new n → Made (decided_of t f) old new (record { length = n; next = progress f.next u Records })
+record_made t f old e q put = rw (← e) (put, ap (λ (u : Tally). progress f.next u Records) q)
 
 module _ (s : List ℕ) (p : Progress) where
   -- while bytes are left, the line of a record

@@ -1,4 +1,5 @@
 -- How many lines a report has left at most: fewer with each line, until it is done; and a line that is made is not empty. Assumes nothing.
+use Rattle.std.specs.Prelude.{Ok, Err}
 use mathlib.Core.Path.{◌≡◌, refl, ap}
 use mathlib.Core.Bool.{Bool, true, false, cond}
 use mathlib.Core.List.{List}
@@ -7,8 +8,8 @@ use native.Mathlib.Omega.{arith}
 use lib.Dec.{ltb}
 use lib.ListN.{length}
 use borrow.Author.Tests.{ltb-true}
-use Rattle.refusal.specs.Refusal.{answered, refused}
 use Rattle.codec.specs.Field.{Reading}
+use Rattle.types.specs.Refusal.{number_of}
 use Rattle.types.specs.declared.table.Table.{Table}
 use Rattle.codec.specs.TableField.{table_record_at}
 use Rattle.codec.proofs.TableFieldLaws.{record_read}
@@ -34,8 +35,8 @@ Moves s left a = (1 ≤ length a.line) × (lines_left s a.next < left)
 
 module _ (s : List ℕ) (p : Progress) where
   by_record : (r : Reading Table) → table_record_at s p.at ≡ r → p.at < length s → Moves s (length s - p.at + 2) (advance_by p.at p.tally r)
-  by_record (refused n) e h = (refusal_some (p.tally.records + 1) n, omega arith)
-  by_record (answered f) e h = (record_some (p.tally.records + 1) (decided f.value), omega (arith, (record_read s p.at f e).forward))
+  by_record (Err r) e h = (refusal_some (p.tally.records + 1) (number_of r), omega arith)
+  by_record (Ok f) e h = (record_some (p.tally.records + 1) (decided f.value), omega (arith, (record_read s p.at f e).forward))
 
   by_test : (b : Bool) → ltb p.at (length s) ≡ b
       → Moves s (length s - p.at + 2) (cond b (advance_by p.at p.tally (table_record_at s p.at)) (last_of p.at p.tally))

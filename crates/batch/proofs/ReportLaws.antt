@@ -1,5 +1,6 @@
 -- The lines of a report one after another are the report, and come to an end; its numbers stay within their bounds along the way. Assumes
 -- nothing.
+use Rattle.std.specs.Prelude.{Ok, Err}
 use mathlib.Core.Path.{◌≡◌, refl, ap}
 use mathlib.Core.Bool.{Bool, true, false, cond}
 use mathlib.Core.List.{List, [], ◌++◌, append-nil}
@@ -8,7 +9,6 @@ use native.Mathlib.Omega.{arith}
 use lib.Dec.{ltb}
 use lib.ListN.{length}
 use borrow.Author.Tests.{ltb-true, lt-ltb, le-ltb}
-use Rattle.refusal.specs.Refusal.{answered, refused}
 use Rattle.types.specs.declared.stage.Stage.{Stage}
 use Rattle.types.specs.declared.stage.Stage.TheVariants.{Open, Found, Looped, Binate}
 use Rattle.job.specs.Sound.{cap}
@@ -51,14 +51,14 @@ module _ (s : List ℕ) where
 
   -- the record at a position and what comes after it, or its refusal and the last line
   comes_record : (rest : ℕ → Tally → List ℕ) (m at : ℕ) (t : Tally) (r : Reading Table) → 1 ≤ m → advance s (progress at t Records) ≡ advance_by at t r
-      → ((f : Field Table) (u : Tally) → r ≡ answered f → Comes m s (progress f.next u Records) (rest f.next u))
+      → ((f : Field Table) (u : Tally) → r ≡ Ok f → Comes m s (progress f.next u Records) (rest f.next u))
       → Comes (suc m) s (progress at t Records) (record_then rest t r)
   unfolding advance
-  comes_record rest m at t (refused n) l e later =
-      comes_next m s (progress at t Records) (advance_by at t (refused n)) (last_line t) e (comes_last m (progress at t Last) l refl)
-  comes_record rest m at t (answered f) l e later =
-      let next = (advance_by at t (answered f)).next in
-      comes_next m s (progress at t Records) (advance_by at t (answered f)) (rest next.at next.tally) e (later f next.tally refl)
+  comes_record rest m at t (Err n) l e later =
+      comes_next m s (progress at t Records) (advance_by at t (Err n)) (last_line t) e (comes_last m (progress at t Last) l refl)
+  comes_record rest m at t (Ok f) l e later =
+      let next = (advance_by at t (Ok f)).next in
+      comes_next m s (progress at t Records) (advance_by at t (Ok f)) (rest next.at next.tally) e (later f next.tally refl)
 
   -- from a position on: each record takes one byte of the input at least, and two lines may follow the last of them
   comes : (left m at : ℕ) (t : Tally) → at ≤ length s → length s ≤ at + left → length s + 2 ≤ at + m → Comes m s (progress at t Records) (report_from left s at t)
@@ -72,7 +72,7 @@ module _ (s : List ℕ) where
       rest : ℕ → Tally → List ℕ
       rest = report_from left s
 
-      by : (b : Bool) → ltb at (length s) ≡ b → ((f : Field Table) (u : Tally) → table_record_at s at ≡ answered f → Comes m s (progress f.next u Records) (rest f.next u))
+      by : (b : Bool) → ltb at (length s) ≡ b → ((f : Field Table) (u : Tally) → table_record_at s at ≡ Ok f → Comes m s (progress f.next u Records) (rest f.next u))
           → Comes (suc m) s (progress at t Records) (cond b (record_then rest t (table_record_at s at)) (last_line t))
       by true e later = comes_record rest m at t (table_record_at s at) (omega (arith, ltb-true at (length s) e)) (rw e) later
       by false e later = comes_last (suc m) (progress at t Records) (omega arith) (rw e)
@@ -96,11 +96,7 @@ module _ (s : List ℕ) where
 
 -- ---- the numbers of a report
 
--- the numbers of the start are within their bounds
-pub bounded_start : Bounded start
-bounded_start = omega arith
-
--- so they are after one record more, further on
+-- the numbers of a report are within their bounds after one record more, further on
 bounded_counted : (p : Progress) (next : ℕ) (stage : Stage) (k : ℕ) → Bounded p → p.at < next → next ≤ input_most → k ≤ cap
     → Bounded (progress next (counted stage k p.tally) Records)
 bounded_counted p next Open k b f n c = omega arith
@@ -114,8 +110,8 @@ unfolding advance
 bounded_next s p l b = by p.phase
   where
     by_record : (r : Reading Table) → table_record_at s p.at ≡ r → Bounded (advance_by p.at p.tally r).next
-    by_record (refused n) e = omega arith
-    by_record (answered f) e =
+    by_record (Err n) e = omega arith
+    by_record (Ok f) e =
         let t = f.value in
         bounded_counted p f.next (decided t).state.stage (decided t).state.k b
         (record_read s p.at f e).forward

@@ -1,9 +1,10 @@
 -- A report line by line (document 01, "Kinds, Chow, report"). Definitions only. Assumes nothing.
-use Rattle.std.specs.Prelude.{◌≡◌, Bool, true, false, cond, List, [], ◌++◌, ℕ, zero, suc, ◌+◌, ◌*◌, ◌≤◌, ltb, length}
-use Rattle.refusal.specs.Refusal.{answered, refused}
+use Rattle.types.specs.declared.refusal.Refusal.{Refusal}
+use Rattle.types.specs.Refusal.{number_of}
+use Rattle.std.specs.Prelude.{◌≡◌, Bool, true, false, cond, List, [], ◌++◌, ℕ, zero, suc, ◌+◌, ◌*◌, ◌≤◌, ltb, length, Ok, Err}
 use Rattle.job.specs.Sound.{cap}
 use Rattle.types.specs.declared.table.Table.{Table}
-use Rattle.codec.specs.Field.{Reading}
+use Rattle.codec.specs.Field.{Field, Reading}
 use Rattle.codec.specs.Written.{Put}
 use Rattle.codec.specs.TableField.{table_record_at}
 use Rattle.reporting.specs.declared.tally.Tally.{Tally}
@@ -46,14 +47,18 @@ pub record Bounded (p : Progress) : Type 0 where
   pub sum : p.tally.sum ≤ cap * p.tally.records
 
 -- the line of a refusal
-abbrev pub refusal_of : ℕ → Tally → ℕ → Advance
-refusal_of at t n = record { line = refusal_line (t.records + 1) n; next = progress at t Last }
+abbrev pub refusal_of : ℕ → Tally → Refusal → Advance
+refusal_of at t e = record { line = refusal_line (t.records + 1) (number_of e); next = progress at t Last }
+
+-- the line of a table that was read
+abbrev pub decided_of : Tally → Field Table → Advance
+decided_of t f =
+    record { line = record_line (t.records + 1) (decided f.value); next = progress f.next (counted (decided f.value).state.stage (decided f.value).state.k t) Records }
 
 -- the line of the record at a position, or of its refusal
 abbrev pub advance_by : ℕ → Tally → Reading Table → Advance
-advance_by at t (refused n) = refusal_of at t n
-advance_by at t (answered f) =
-    record { line = record_line (t.records + 1) (decided f.value); next = progress f.next (counted (decided f.value).state.stage (decided f.value).state.k t) Records }
+advance_by at t (Err e) = refusal_of at t e
+advance_by at t (Ok f) = decided_of t f
 
 -- the last line
 abbrev pub last_of : ℕ → Tally → Advance

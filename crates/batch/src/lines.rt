@@ -28,10 +28,11 @@ pub fn fill(input: &[u8], progress: Progress, out: &mut [u8]) -> Lines
     let mut count: usize = 0;
     let mut length: usize = 0;
     let mut next = progress;
+    // kept: nothing is counted here, the loop goes on while a line has room
     while LINE_ROOM <= out.len() - length && !is_done(next) {
         let line = next_line(input, next, &steps, &mut out[length..]);
-        count = count + 1;
-        length = length + line.length;
+        count += 1;
+        length += line.length;
         next = line.next;
     }
     Lines {

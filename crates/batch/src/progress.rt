@@ -5,7 +5,7 @@ ghost use Rattle.batch.specs.Progress.{start, is_done};
 use reporting::tally::{Tally, no_tally};
 
 // What comes next: a record, or the last line after a refusal, or nothing.
-#[derive(Clone, Copy)]
+#[derive(Clone, Copy, PartialEq, Eq)]
 pub enum Phase {
     Records,
     Last,
@@ -35,10 +35,5 @@ pub fn at_start() -> Progress
 pub fn is_done(progress: Progress) -> bool
     ensures { result ≡ is_done progress.phase }
 {
-    let phase = progress.phase;
-    match phase {
-        Phase::Records => false,
-        Phase::Last => false,
-        Phase::Done => true,
-    }
+    progress.phase == Phase::Done
 }

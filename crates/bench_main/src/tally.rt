@@ -1,11 +1,10 @@
 // How the jobs of a run ended. The sums wrap, so that no input stops the count.
 use crate::ways;
 use crate::ways::Work;
-use heads::kind::{KindByte, Takes, read_kind};
+use heads::kind::{Takes, read_kind};
 use reading::tables::read_table;
-use refusal::refusal::Status;
 use std::io;
-use types::kind::Kind;
+use types::kind::{Family, Head};
 use types::stage::Stage;
 
 // The tables, the jobs by stage, the corrections made, the calls of carry-on, and the bytes that jobs were saved in.
@@ -42,8 +41,7 @@ fn with_work(tally: Tally, work: Work) -> Tally {
     next.corrections = next.corrections.wrapping_add(work.k as u64);
     next.calls = next.calls.wrapping_add(work.calls);
     next.bytes = next.bytes.wrapping_add(work.bytes);
-    let stage = work.stage;
-    match stage {
+    match work.stage {
         Stage::Open => next.open = next.open.wrapping_add(1),
         Stage::Found => next.found = next.found.wrapping_add(1),
         Stage::Looped => next.looped = next.looped.wrapping_add(1),
@@ -52,17 +50,16 @@ fn with_work(tally: Tally, work: Work) -> Tally {
     next
 }
 
-// Returns the way that a kind byte stands for in the heads; 0 for none, as of a kind whose tables have care bytes.
-fn way_of(said: KindByte) -> u8 {
-    if said.cares {
-        return 0;
+// Returns the way that a kind byte stands for in the heads; none, as of a kind whose tables have care bytes.
+fn way_of(head: Head) -> Option<u8> {
+    if head.cares {
+        return None;
     }
-    let kind = said.kind;
-    match kind {
-        Kind::Table => 1,
-        Kind::Gate => 2,
-        Kind::Witness => ways::LAST,
-        _ => 0,
+    match head.family {
+        Family::Tables => Some(1),
+        Family::Gates => Some(2),
+        Family::Witnesses => Some(ways::LAST),
+        Family::Jobs => None,
     }
 }
 
@@ -70,22 +67,18 @@ fn way_of(said: KindByte) -> u8 {
 pub fn of(heads: &[u8]) -> Tally {
     let mut tally = none();
     let mut at: usize = 0;
-    let mut left = heads.len();
-    while 0 < left {
-        let field = read_kind(heads, at, Takes::Every);
-        let said = field.said;
-        let way = way_of(said);
-        if way == 0 {
+    for _ in 0..heads.len() {
+        let Ok(head) = read_kind(heads, at, Takes::Every) else {
             return tally;
-        }
-        let head = read_table(heads, field.next, false);
-        let status = head.status;
-        if let Status::Refused(_) = status {
+        };
+        let Some(way) = way_of(head.value) else {
             return tally;
-        }
-        tally = with_work(tally, ways::carried_on(way, head.table));
-        at = head.next;
-        left = left - 1;
+        };
+        let Ok(table) = read_table(heads, head.next, false) else {
+            return tally;
+        };
+        tally = with_work(tally, ways::carried_on(way, table.value));
+        at = table.next;
     }
     tally
 }

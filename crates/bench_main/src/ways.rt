@@ -4,10 +4,12 @@ ghost use Rattle.std.specs.Prelude.{◌<◌, ◌≤◌};
 
 use job::job::Job;
 use receiving::record::read;
+use records::record::Record;
+use testing::make;
 use testing::parts::first_bytes;
 use types::stage::Stage;
 use types::table::Table;
-use writers::write::{Written, save};
+use writers::write::save;
 
 // The number of the last way.
 pub const LAST: u8 = 3;
@@ -36,14 +38,7 @@ struct Saved {
 
 // Whether a job is open.
 fn is_open(job: Job) -> bool {
-    let state = job.state;
-    let stage = state.stage;
-    match stage {
-        Stage::Open => true,
-        Stage::Found => false,
-        Stage::Looped => false,
-        Stage::Binate => false,
-    }
+    job.state.stage == Stage::Open
 }
 
 // Returns the budget of a small call, of what is left.
@@ -59,28 +54,24 @@ fn small_budget(left: u32) -> u32
 
 // Saves a job and reads it back. A job that cannot be saved stays as it is.
 fn saved_and_read(job: Job, out: &mut [u8]) -> Saved {
-    let written = save(job, out);
-    match written {
-        Written::Bytes(length) => {
-            let record = read(first_bytes(out, length));
-            let job = record.job;
-            Saved {
-                job,
-                bytes: length as u64,
-            }
-        }
-        Written::Refused(_) => Saved { job, bytes: 0 },
+    let Ok(length) = save(job, out) else {
+        return Saved { job, bytes: 0 };
+    };
+    let Ok(Record::Job(job)) = read(first_bytes(out, length)) else {
+        return Saved { job, bytes: 0 };
+    };
+    Saved {
+        job,
+        bytes: length as u64,
     }
 }
 
 // Carries a job on in one call.
 fn in_one_call(job: Job) -> Work {
     let carried = job.carry_on(Job::CALL_BUDGET);
-    let job = carried.job;
-    let state = job.state;
-    let stage = state.stage;
+    let state = carried.job.state;
     Work {
-        stage,
+        stage: state.stage,
         k: state.k,
         calls: 1,
         bytes: 0,
@@ -94,6 +85,7 @@ fn in_small_calls(fresh: Job, is_saved: bool) -> Work {
     let mut left = Job::CALL_BUDGET;
     let mut calls: u64 = 0;
     let mut bytes: u64 = 0;
+    // kept: a call may end the job, and the last budget is what is left
     while 0 < left && is_open(job) {
         let budget = small_budget(left);
         let carried = job.carry_on(budget);
@@ -106,22 +98,20 @@ fn in_small_calls(fresh: Job, is_saved: bool) -> Work {
             bytes = bytes.wrapping_add(saved.bytes);
         }
     }
-    let state = job.state;
-    let stage = state.stage;
     Work {
-        stage,
-        k: state.k,
+        stage: job.state.stage,
+        k: job.state.k,
         calls,
         bytes,
     }
 }
 
-// Carries the fresh job of a table on in a way.
+// Carries the fresh job of a table that was read on in a way; of one that is refused, which no reading gives, the job with all numbers 0.
 pub fn carried_on(way: u8, table: Table) -> Work {
-    let fresh = Job::fresh(table);
+    let fresh = Job::fresh(table).unwrap_or(make::no_job(table));
     if way == 1 {
-        in_one_call(fresh.job)
+        in_one_call(fresh)
     } else {
-        in_small_calls(fresh.job, way == LAST)
+        in_small_calls(fresh, way == LAST)
     }
 }

@@ -1,5 +1,6 @@
 -- The bodies of records: a table's, a job's field after field, and how many bytes a body takes at most, so that sums of lengths do not wrap.
 -- Assumes nothing.
+use Rattle.records.specs.declared.record.Record.TheVariants as Record'
 use mathlib.Core.Path.{◌≡◌, refl, ◌∙◌, ap}
 use mathlib.Core.List.{List, ◌++◌, append_assoc}
 use Prim.Native.Nat.{ℕ, ◌+◌, ◌-◌, ◌≤◌}
@@ -19,13 +20,14 @@ use Rattle.codec.proofs.WeightLaws.{weights_most, vector_parts}
 use Rattle.codec.proofs.PairLaws.{row_list_bytes_lem}
 use Rattle.writing.proofs.TableParts.{table_most}
 use Rattle.rowlists.proofs.RowParts.{pairs_most}
-use Rattle.records.specs.Record.{Record, of_table, of_gate, of_witness, of_job, table_in, gate_vector, numbers_bytes, job_bytes, body_bytes, record_bytes}
+use Rattle.records.specs.declared.record.Record.{Record}
+use Rattle.records.specs.Record.{table_in, gate_vector, numbers_bytes, job_bytes, body_bytes, record_bytes}
 use Rattle.bodies.proofs.RecordParts.{rest_bytes, kind_and_body, body_parts}
 
 -- ---- a table's body, and a job's
 
 -- of a table alone it is the table
-pub table_body : (t : Table) → body_bytes (of_table t) ≡ table_bytes t
+pub table_body : (t : Table) → body_bytes (Record'.Table t) ≡ table_bytes t
 unfolding body_bytes
 table_body t = refl
 
@@ -33,8 +35,8 @@ table_body t = refl
 abbrev pub fields : Job → List ℕ
 fields j = (table_bytes j.table ++ numbers_bytes j) ++ row_list_bytes j.state.counts
 
-pub job_parts : (j : Job) → body_bytes (of_job j) ≡ fields j
-job_parts j = body_parts (of_job j) ∙ simp append_assoc
+pub job_parts : (j : Job) → body_bytes (Record'.Job j) ≡ fields j
+job_parts j = body_parts (Record'.Job j) ∙ simp append_assoc
 
 -- what follows the table, as it is read: K, then v, then s, then the row list
 pub job_bytes_lem : (j : Job)
@@ -55,19 +57,19 @@ job_count j =
 -- ---- lengths
 
 -- n weights and b take at most 27
-pub vector_most : (n : ℕ) (v : Vector) → n ≤ 8 → length (vector_bytes n v) ≤ 27
+vector_most : (n : ℕ) (v : Vector) → n ≤ 8 → length (vector_bytes n v) ≤ 27
 vector_most n v h = rw (vector_parts n v, length-append) (omega (arith, weights_most v.a n, number_length (signed_code v.b)))
 
 -- a row list takes at most 1539
-pub rows_most : (counts : List ℕ) → length (row_list_bytes counts) ≤ 1539
+rows_most : (counts : List ℕ) → length (row_list_bytes counts) ≤ 1539
 rows_most counts = rw (row_list_bytes_lem counts, length-append) (omega (arith, number_length (filled_from counts 256 0), pairs_most counts 256))
 
 -- what follows the table takes at most 1596
 rest_most : (x : Record) → (table_in x).n ≤ 8 → length (rest_bytes x) ≤ 1596
-rest_most (of_table t) h = omega arith
-rest_most (of_gate t g) h = omega (arith, vector_most t.n (gate_vector g) h)
-rest_most (of_witness t w) h = omega (arith, rows_most w.counts)
-rest_most (of_job j) h =
+rest_most (Record'.Table t) h = omega arith
+rest_most (Record'.Gate t g) h = omega (arith, vector_most t.n (gate_vector g) h)
+rest_most (Record'.Witness t w) h = omega (arith, rows_most w.counts)
+rest_most (Record'.Job j) h =
     omega (
       arith,
       job_count j,
@@ -83,6 +85,11 @@ body_count x = rw (body_parts x) (length-append (table_bytes (table_in x)) (rest
 
 pub body_most : (x : Record) → (table_in x).n ≤ 8 → length (body_bytes x) ≤ 2047
 body_most x h = omega (arith, body_count x, table_most (table_in x) h, rest_most x h)
+
+-- and so do the lengths of a job's fields together
+pub job_most : (j : Job) → j.table.n ≤ 8
+    → length (table_bytes j.table) + length (number_bytes j.state.k) + (length (vector_bytes j.table.n j.state.v) + length (vector_bytes j.table.n j.state.s)) + length (row_list_bytes j.state.counts) ≤ 2047
+job_most j h = omega (arith, body_count (Record'.Job j), job_count j, body_most (Record'.Job j) h)
 
 -- and of a record at most 2048
 pub record_most : (x : Record) → (table_in x).n ≤ 8 → length (record_bytes x) ≤ 2048

@@ -1,4 +1,5 @@
 -- A record as its kind byte, its table and the rest, and what its rules say of its parts. Assumes nothing.
+use Rattle.records.specs.declared.record.Record.TheVariants as Record'
 use mathlib.Core.Path.{◌≡◌, refl, sym, ◌∙◌}
 use mathlib.Core.Logic.{◌≢◌}
 use mathlib.Core.Bool.{Bool, true, false, not, ◌||◌}
@@ -30,28 +31,29 @@ use Rattle.refusal.proofs.TableChecked.{kept_cares, others_kept}
 use Rattle.codec.specs.Kind.{head_kind}
 use Rattle.codec.specs.TableField.{table_bytes}
 use Rattle.codec.proofs.TableFieldLaws.{Held}
-use Rattle.records.specs.Record.{Record, of_table, of_gate, of_witness, of_job, table_in, head_in, gate_vector, job_bytes, body_bytes, record_bytes}
+use Rattle.records.specs.declared.record.Record.{Record}
+use Rattle.records.specs.Record.{table_in, head_in, gate_vector, job_bytes, body_bytes, record_bytes}
 
 -- the arrays of a record are as those of the code's types, as every value of those types has them; a sound job's others are part of
 -- soundness
 abbrev pub Shaped : Record → Type 0
-Shaped (of_table t) = Held t
-Shaped (of_gate t g) = Held t × (length g.weights ≡ 8)
-Shaped (of_witness t w) = Held t × (length w.counts ≡ 256)
-Shaped (of_job j) = Held j.table
+Shaped (Record'.Table t) = Held t
+Shaped (Record'.Gate t g) = Held t × (length g.weights ≡ 8)
+Shaped (Record'.Witness t w) = Held t × (length w.counts ≡ 256)
+Shaped (Record'.Job j) = Held j.table
 
 pub held : (x : Record) → Shaped x → Held (table_in x)
-held (of_table t) h = h
-held (of_gate t g) (h, weights) = h
-held (of_witness t w) (h, counts) = h
-held (of_job j) h = h
+held (Record'.Table t) h = h
+held (Record'.Gate t g) (h, weights) = h
+held (Record'.Witness t w) (h, counts) = h
+held (Record'.Job j) h = h
 
 -- what follows the table that a record begins with
 abbrev pub rest_bytes : Record → List ℕ
-rest_bytes (of_table t) = []
-rest_bytes (of_gate t g) = vector_bytes t.n (gate_vector g)
-rest_bytes (of_witness t w) = row_list_bytes w.counts
-rest_bytes (of_job j) = job_bytes j
+rest_bytes (Record'.Table t) = []
+rest_bytes (Record'.Gate t g) = vector_bytes t.n (gate_vector g)
+rest_bytes (Record'.Witness t w) = row_list_bytes w.counts
+rest_bytes (Record'.Job j) = job_bytes j
 
 -- a record is its kind byte and its body, and a body is the table and the rest
 pub kind_and_body : (x : Record) → record_bytes x ≡ (head_kind (head_in x) ∷ []) ++ body_bytes x
@@ -60,10 +62,10 @@ kind_and_body x = refl
 
 pub body_parts : (x : Record) → body_bytes x ≡ table_bytes (table_in x) ++ rest_bytes x
 unfolding body_bytes
-body_parts (of_table t) = sym (append-nil (table_bytes t))
-body_parts (of_gate t g) = refl
-body_parts (of_witness t w) = refl
-body_parts (of_job j) = refl
+body_parts (Record'.Table t) = sym (append-nil (table_bytes t))
+body_parts (Record'.Gate t g) = refl
+body_parts (Record'.Witness t w) = refl
+body_parts (Record'.Job j) = refl
 
 -- a witness that keeps its ranges is not unfit
 pub fit_from : (a b c : Bool) → a ≡ false → b ≡ true → c ≡ true → (a || not b || not c) ≡ false

@@ -5,9 +5,10 @@ ghost use Rattle.refusal.specs.Refusal.{NoneBroken};
 ghost use Rattle.cell.specs.Calls.{gate_rules, witness_rules};
 ghost use Rattle.job.specs.Calls.{job_rules};
 ghost use Rattle.codec.specs.Written.{Room, Put};
-ghost use Rattle.records.specs.Record.{of_gate, of_witness, of_job, gate_vector, numbers_bytes, body_bytes};
+ghost use Rattle.records.specs.Record.{gate_vector, numbers_bytes, body_bytes};
 
 use job::job::Job;
+use records::record::Record;
 use rowlists::write::{put_rows, rows_length};
 use table::table::row_count;
 use types::gate::Gate;
@@ -32,15 +33,15 @@ fn vector_of(gate: Gate) -> Vector
 // Returns how many bytes a table with a gate takes.
 pub fn gate_length(table: Table, gate: Gate) -> usize
     requires { NoneBroken (gate_rules table gate []) }
-    ensures { result ≡ length (body_bytes (of_gate table gate)) }
+    ensures { result ≡ length (body_bytes (Record.Gate table gate)) }
 {
     table_length(table) + vector_length(vector_of(gate), table.n)
 }
 
 // Writes a table with a gate.
 pub fn put_gate(out: &mut [u8], at: usize, table: Table, gate: Gate) -> usize
-    requires { NoneBroken (gate_rules table gate []) × Room out.old at (body_bytes (of_gate table gate)) }
-    ensures { Put out.old at (body_bytes (of_gate table gate)) out.new result }
+    requires { NoneBroken (gate_rules table gate []) × Room out.old at (body_bytes (Record.Gate table gate)) }
+    ensures { Put out.old at (body_bytes (Record.Gate table gate)) out.new result }
 {
     let v_at = put_table(out, at, table);
     put_vector(out, v_at, table.n, vector_of(gate))
@@ -49,15 +50,15 @@ pub fn put_gate(out: &mut [u8], at: usize, table: Table, gate: Gate) -> usize
 // Returns how many bytes a table with a witness takes.
 pub fn witness_length(table: Table, witness: Witness) -> usize
     requires { NoneBroken (witness_rules table witness []) }
-    ensures { result ≡ length (body_bytes (of_witness table witness)) }
+    ensures { result ≡ length (body_bytes (Record.Witness table witness)) }
 {
     table_length(table) + rows_length(&witness.counts, row_count(table.n))
 }
 
 // Writes a table with a witness.
 pub fn put_witness(out: &mut [u8], at: usize, table: Table, witness: Witness) -> usize
-    requires { NoneBroken (witness_rules table witness []) × Room out.old at (body_bytes (of_witness table witness)) }
-    ensures { Put out.old at (body_bytes (of_witness table witness)) out.new result }
+    requires { NoneBroken (witness_rules table witness []) × Room out.old at (body_bytes (Record.Witness table witness)) }
+    ensures { Put out.old at (body_bytes (Record.Witness table witness)) out.new result }
 {
     let rows_at = put_table(out, at, table);
     let length = put_rows(&mut out[rows_at..], &witness.counts, row_count(table.n));
@@ -67,7 +68,7 @@ pub fn put_witness(out: &mut [u8], at: usize, table: Table, witness: Witness) ->
 // Returns how many bytes a job takes.
 pub fn job_length(job: Job) -> usize
     requires { NoneBroken (job_rules job []) }
-    ensures { result ≡ length (body_bytes (of_job job)) }
+    ensures { result ≡ length (body_bytes (Record.Job job)) }
 {
     let table = job.table;
     let state = job.state;
@@ -91,8 +92,8 @@ fn put_numbers(out: &mut [u8], at: usize, job: Job) -> usize
 
 // Writes an open job.
 pub fn put_job(out: &mut [u8], at: usize, job: Job) -> usize
-    requires { NoneBroken (job_rules job []) × (job.state.stage ≡ Stage.Open) × Room out.old at (body_bytes (of_job job)) }
-    ensures { Put out.old at (body_bytes (of_job job)) out.new result }
+    requires { NoneBroken (job_rules job []) × (job.state.stage ≡ Stage.Open) × Room out.old at (body_bytes (Record.Job job)) }
+    ensures { Put out.old at (body_bytes (Record.Job job)) out.new result }
 {
     let table = job.table;
     let state = job.state;

@@ -1,66 +1,54 @@
 // The checker: it takes a table with a gate or a witness, from anyone, and says yes or no. The tests of their formats, with which it starts,
 // stand first.
 ghost use Rattle.std.specs.Prelude.{◌≡◌};
-ghost use Rattle.refusal.specs.Answers.{answer, status};
 ghost use Rattle.cell.specs.Calls.{gate_checked, witness_checked, check_gate, check_witness};
 
 use gates::gate::{gate_beyond, gate_realises};
-use refusal::refusal::{Answer, Status, as_answer, table_status};
+use refusal::refusal::table_status;
 use rowwise::witness::witness_unfit;
 use sides::balance::is_balanced;
 use types::gate::Gate;
+use types::refusal::Refusal;
 use types::table::Table;
 use types::witness::Witness;
 
 // Returns whether the table and the gate beside it keep their formats, or their refusal: 2, 3, 16, then 7.
-fn gate_status(table: Table, gate: Gate) -> Status
-    ensures { result ≡ status (gate_checked table gate) }
+fn gate_status(table: Table, gate: Gate) -> Result<(), Refusal>
+    ensures { result ≡ gate_checked table gate }
 {
     if gate.n != table.n {
-        return Status::Refused(2);
+        return Err(Refusal::Inputs);
     }
-    let status = table_status(table);
-    if let Status::Refused(number) = status {
-        return Status::Refused(number);
-    }
+    table_status(table)?;
     if gate_beyond(gate) {
-        return Status::Refused(7);
+        return Err(Refusal::Gate);
     }
-    Status::Done
+    Ok(())
 }
 
 // Returns whether the table and the witness beside it keep their formats, or their refusal: 2, 3, 16, then 8.
-fn witness_status(table: Table, witness: Witness) -> Status
-    ensures { result ≡ status (witness_checked table witness) }
+fn witness_status(table: Table, witness: Witness) -> Result<(), Refusal>
+    ensures { result ≡ witness_checked table witness }
 {
-    let status = table_status(table);
-    if let Status::Refused(number) = status {
-        return Status::Refused(number);
-    }
+    table_status(table)?;
     if witness_unfit(table, witness) {
-        return Status::Refused(8);
+        return Err(Refusal::RowList);
     }
-    Status::Done
+    Ok(())
 }
 
 // Says whether the gate agrees with the table on every row that is cared for. Refusals: 2, 3, 16, 7.
-pub fn check_gate(table: Table, gate: Gate) -> Answer
-    ensures { result ≡ answer (check_gate table gate) }
+pub fn check_gate(table: Table, gate: Gate) -> Result<bool, Refusal>
+    ensures { result ≡ check_gate table gate }
 {
-    let status = gate_status(table, gate);
-    if let Status::Refused(number) = status {
-        return Answer::Refused(number);
-    }
-    as_answer(gate_realises(table, gate))
+    gate_status(table, gate)?;
+    Ok(gate_realises(table, gate))
 }
 
 // Says whether the witness balances, after which no gate realises the table. Refusals: 2, 3, 16, 8.
-pub fn check_witness(table: Table, witness: Witness) -> Answer
-    ensures { result ≡ answer (check_witness table witness) }
+pub fn check_witness(table: Table, witness: Witness) -> Result<bool, Refusal>
+    ensures { result ≡ check_witness table witness }
 {
-    let status = witness_status(table, witness);
-    if let Status::Refused(number) = status {
-        return Answer::Refused(number);
-    }
-    as_answer(is_balanced(table, witness))
+    witness_status(table, witness)?;
+    Ok(is_balanced(table, witness))
 }

@@ -1,4 +1,4 @@
-// A record that was read, looked at: the numbers that a call of the C interface returns for it.
+// A record that was read, looked at: what a call of the C interface says of it.
 #![tactic(auto)]
 
 pub mod certificate;

@@ -1,13 +1,13 @@
 -- The loop of `chunk` beside the machine: a pass of the loop is a step, and where the loop ends the state is the machine's. Assumes nothing.
 use Rattle.std.specs.Prelude.{◌≡◌, ℕ, ◌+◌, ◌*◌, ◌/◌, ◌<◌, ◌≤◌, Bool, true, false, eqb, ◌≢◌, List, length, get_or, ℤ, pos}
 use mathlib.Core.Path.{refl, sym, ◌∙◌, ap, subst}
-use mathlib.Core.Option.{Option, some, none}
+use Rattle.std.specs.Prelude.{Option, Some, None, MatchOption}
 use native.Mathlib.Decide.{dec_le}
 use native.Mathlib.Omega.{arith}
 use Rattle.numbers.proofs.TabulateLaws.{filled}
+use Rattle.numbers.proofs.TestLaws.{no_true, not_passed}
 use Rattle.types.specs.declared.table.Table.{Table}
 use Rattle.table.specs.Table.{rows, value, function_of}
-use Rattle.table.specs.Inputs.{lowest_of}
 use Rattle.table.proofs.TableLaws.{rows_le}
 use Rattle.types.specs.declared.vector.Vector.{Vector}
 use Rattle.function.specs.Failing.{failing}
@@ -43,17 +43,36 @@ pub record Begun (t : Table) (start : State) (budget : ℕ) : Type 0 where
   pub few : budget ≤ 750
 
 -- `made` of the budget's steps are made, and `next` is what the search by v found
-pub record Passed (t : Table) (start : State) (budget made : ℕ) (x : State) (sums copy : List ℤ) (next : ℕ) : Type 0 where
+pub record Passed (t : Table) (start : State) (budget made : ℕ) (x : State) (sums copy : List ℤ) (next : Option ℕ) : Type 0 where
   pub follows : Follows t start made x sums copy
   pub search : next ≡ found_code t (failing (function_of t) follows.v)
   pub within : made ≤ budget
 
--- the loop's invariant: `next` is what the search found, or 513 where v is s again and the state is looped
-pub record Going (t : Table) (start : State) (budget made : ℕ) (x : State) (sums copy : List ℤ) (next : ℕ) : Type 0 where
-  pub passed : next ≤ 512 → Passed t start budget made x sums copy next
-  pub closed : next ≡ 513 → (r : State) → Restores x sums copy Stage'.Looped r → r ≡ run (function_of t) budget start
-  pub within : made ≤ budget
-  pub known : next ≤ 513
+-- the loop's invariant: so it is, or v is s again, the state is looped, and there is no next step
+pub record Going (t : Table) (start : State) (budget made : ℕ) (x : State) (sums copy : List ℤ) (next : Option ℕ) (looped : Bool) : Type 0 where
+  pub still : looped ≡ false → Passed t start budget made x sums copy next
+  pub ends : looped ≡ true → next ≡ None
+  pub closed : looped ≡ true → (r : State) → Restores x sums copy Stage'.Looped r → r ≡ run (function_of t) budget start
+
+-- with a next step it is not looped
+module _ {t : Table} {start : State} {budget made : ℕ} {x : State} {sums copy : List ℤ} {next : Option ℕ} {looped : Bool} {code : ℕ}
+    (g : Going t start budget made x sums copy next looped) (is : next ≡ Some code)
+  where
+    pub going_still : looped ≡ false
+    going_still = not_passed looped (λ e. let none : Some code ≡ None = sym is ∙ g.ends e in absurd (cc))
+
+    pub going_passed : Passed t start budget made x sums copy next
+    going_passed = g.still going_still
+
+-- a step further with a search
+pub going_on : {t : Table} {start : State} {budget made : ℕ} {x : State} {sums copy : List ℤ} {next : Option ℕ} {looped : Bool} → looped ≡ false
+    → Passed t start budget made x sums copy next
+    → Going t start budget made x sums copy next looped
+going_on is pass = record {
+  still = λ e. pass;
+  ends = λ e. absurd (no_true (sym is ∙ e));
+  closed = λ e. absurd (no_true (sym is ∙ e));
+}
 
 module _ {t : Table} {start : State} {budget : ℕ} (b : Begun t start budget) where
   module _ {m : ℕ} {x : State} {sums copy : List ℤ} (h : m ≤ budget) (c : Follows t start m x sums copy) where
@@ -68,14 +87,14 @@ module _ {t : Table} {start : State} {budget : ℕ} (b : Begun t start budget) w
         (sums_narrow c.v 16000 bounded.shaped.weights (omega (arith, c.small, b.few)), sums_first c.v)
 
     -- the search by the sums is the search by v
-    pub follows_passed : {next : ℕ} → Searches t sums next → Passed t start budget m x sums copy next
+    pub follows_passed : {next : Option ℕ} → Searches t sums next → Passed t start budget m x sums copy next
     follows_passed search = record {
       follows = c;
       search = search x.k c.v bounded.shaped.weights bounded.current c.current;
       within = h;
     }
 
-  module _ {m : ℕ} {x : State} {sums copy : List ℤ} {next : ℕ} (pass : Passed t start budget m x sums copy next) where
+  module _ {m : ℕ} {x : State} {sums copy : List ℤ} {next : Option ℕ} (pass : Passed t start budget m x sums copy next) where
     abbrev v : Vector
     v = pass.follows.v
 
@@ -94,46 +113,31 @@ module _ {t : Table} {start : State} {budget : ℕ} (b : Begun t start budget) w
         let shaped = passed_bounded.shaped in
         restores v s shaped.weights shaped.copied pass.follows.current pass.follows.copied
 
-    -- what the search found is at most 512
-    passed_most : next ≤ 512
-    passed_most = by (failing (function_of t) v) refl pass.search
-      where
-        by : (o : Option ℕ) → failing (function_of t) v ≡ o → next ≡ found_code t o → next ≤ 512
-        by none f g = omega arith
-        by (some r) f g =
-            let row : r < 256 = omega (arith, (failing_some (function_of t) v r f).inside, rows_le b.inputs) in
-            omega (arith, code_below (value t r) r row)
-
-    -- so the loop goes on
-    pub passed_going : Going t start budget m x sums copy next
-    passed_going = record {
-      passed = λ h. pass;
-      closed = λ e. absurd (omega (arith, passed_most));
-      within = pass.within;
-      known = omega (arith, passed_most);
-    }
-
     -- where no row is found, the state is found, and stays so
-    pub passed_found : {r : State} → next ≡ 512 → Restores x sums copy Stage'.Found r → r ≡ run (function_of t) budget start
+    pub passed_found : {r : State} → next ≡ None → Restores x sums copy Stage'.Found r → r ≡ run (function_of t) budget start
     passed_found is restores =
-        restored restores ∙ unsettled_found unsettled budget pass.within (ap lowest_of (no_row t v pass.search b.inputs is))
+        restored restores ∙ unsettled_found unsettled budget pass.within (no_row t v (sym is ∙ pass.search))
 
-    module _ (other : next ≢ 512) where
+    module _ {code : ℕ} (is : next ≡ Some code) where
       abbrev row : ℕ
-      row = next / 2
+      row = code / 2
 
       abbrev sign : Bool
       sign = value t row
 
-      row_found : lowest_of (failing (function_of t) v) ≡ lowest_of (some row)
-      row_found = ap lowest_of (row_is t v pass.search other).0
+      row_found : failing (function_of t) v ≡ Some row
+      row_found = (row_is t v (sym is ∙ pass.search)).0
 
-      coded : next ≡ row_code sign row
-      coded = (row_is t v pass.search other).1
+      coded : code ≡ row_code sign row
+      coded = (row_is t v (sym is ∙ pass.search)).1
 
       -- the row that is found is one of the 256
-      pub passed_row : next / 2 < 256
+      pub passed_row : code / 2 < 256
       passed_row = omega (arith, unsettled_row unsettled row_found, rows_le b.inputs)
+
+      -- and its code one of the 512
+      pub passed_code : code < 512
+      passed_code = omega (arith, code_below sign row passed_row, coded)
 
       -- a mark clears the counts of the table's rows, and the others are 0
       pub passed_cleared : {counts : List ℕ} → counts ≡ filled uncounted (one_more row x.counts) (rows t) → counts ≡ zeros
@@ -163,7 +167,7 @@ module _ {t : Table} {start : State} {budget : ℕ} (b : Begun t start budget) w
       abbrev after : State
       after = corrected_to row x.v x
 
-      module _ {later : List ℤ} (w : Corrects sums next later) where
+      module _ {later : List ℤ} (w : Corrects sums code later) where
         u_sums : later ≡ vector_sums u
         u_sums = w v sign row passed_bounded.shaped.weights passed_row coded pass.follows.current
 
@@ -185,18 +189,19 @@ module _ {t : Table} {start : State} {budget : ℕ} (b : Begun t start budget) w
               u_sums pass.follows.copied
 
           -- back at s the state is looped, and stays so
-          passed_looped : {r : State} → m < budget → same ≡ true → Restores after later copy Stage'.Looped r → r ≡ run (function_of t) budget start
-          passed_looped more is restores =
+          pub passed_looped : {r : State} → m < budget → same ≡ true → Restores after later copy Stage'.Looped r → r ≡ run (function_of t) budget start
+          passed_looped more same_is restores =
               restores u s u_weights passed_bounded.shaped.copied u_sums pass.follows.copied
-              ∙ unsettled_looped unsettled row_found refl refl budget more (sym compared ∙ is)
+              ∙ unsettled_looped unsettled row_found refl refl budget more (sym compared ∙ same_is)
 
-          pub passed_closed : {y : State} {copies : List ℤ} {code : ℕ} → m < budget → same ≡ true → y ≡ after → copies ≡ copy → code ≡ 513
-              → Going t start budget (m + 1) y later copies code
-          passed_closed more is e f marks = rw (e, f, marks) record {
-            passed = λ h. absurd (omega arith);
-            closed = λ z r restores. passed_looped more is restores;
-            within = omega arith;
-            known = omega arith;
+          pub passed_closed : {y : State} {copies : List ℤ} {code : Option ℕ} {looped : Bool} → m < budget → same ≡ true → y ≡ after → copies ≡ copy
+              → code ≡ None
+              → looped ≡ true
+              → Going t start budget (m + 1) y later copies code looped
+          passed_closed more same_is e f none closes = rw (e, f) record {
+            still = λ z. absurd (no_true (sym z ∙ closes));
+            ends = λ z. none;
+            closed = λ z r restores. passed_looped more same_is restores;
           }
 
           module _ (differs : same ≡ false) where
@@ -206,7 +211,7 @@ module _ {t : Table} {start : State} {budget : ℕ} (b : Begun t start budget) w
             -- elsewhere the loop goes on: at a mark the sums of v are those of s too
             pub passed_marked : {y : State} {copies : List ℤ} → eqb (highest (x.k + 1)) (x.k + 1) ≡ true → y ≡ marking after
                 → copies ≡ later → Follows t start (m + 1) y later copies
-            passed_marked power is same = rw (is, same) record {
+            passed_marked power after_is same_is = rw (after_is, same_is) record {
               v = u;
               s = u;
               current = u_sums;
@@ -218,7 +223,7 @@ module _ {t : Table} {start : State} {budget : ℕ} (b : Begun t start budget) w
             -- and else those of s are as they were
             pub passed_other : {y : State} {copies : List ℤ} → eqb (highest (x.k + 1)) (x.k + 1) ≡ false → y ≡ after
                 → copies ≡ copy → Follows t start (m + 1) y later copies
-            passed_other power is same = rw (is, same) record {
+            passed_other power after_is same_is = rw (after_is, same_is) record {
               v = u;
               s = s;
               current = u_sums;
@@ -227,16 +232,26 @@ module _ {t : Table} {start : State} {budget : ℕ} (b : Begun t start budget) w
               small = u_small;
             }
 
-  -- after the loop the state with its vectors, in the stage that `next` stands for, is the machine's
-  pub going_ends : {m : ℕ} {x : State} {sums copy : List ℤ} {next : ℕ} {stage : Stage} {r : State} → Going t start budget m x sums copy next
-      → (next < 512 → stage ≡ Stage'.Open) × (next ≡ 512 → stage ≡ Stage'.Found) × (next ≡ 513 → stage ≡ Stage'.Looped)
-      → (next < 512 → budget ≤ m) → Restores x sums copy stage r → r ≡ run (function_of t) budget start
-  going_ends {x = x} {sums = sums} {copy = copy} {next = next} {stage = stage} {r = r} g ends all restores = by (dec_le next 511) (dec_le next 512)
+  passed_ends : {m : ℕ} {x : State} {sums copy : List ℤ} {next : Option ℕ} {stage : Stage} {r : State} → Passed t start budget m x sums copy next
+      → MatchOption next (stage ≡ Stage'.Found) (λ code. stage ≡ Stage'.Open)
+      → (next ≢ None → budget ≤ m)
+      → Restores x sums copy stage r → r ≡ run (function_of t) budget start
+  passed_ends {m} {x} {sums} {copy} {next} {stage} {r} pass is all restores = by next refl is
     where
-      by : Dec (next ≤ 511) → Dec (next ≤ 512) → r ≡ run (function_of t) budget start
-      by (yes row) _ =
-          passed_open (g.passed (omega arith)) (λ e. omega arith) (all (omega arith)) (subst (λ (y : Stage). Restores x sums copy y r) (ends.0 (omega arith)) restores)
-      by (no more) (yes last) =
-          passed_found (g.passed last) (omega (arith, more)) (subst (λ (y : Stage). Restores x sums copy y r) (ends.1 (omega (arith, more))) restores)
-      by (no more) (no past) =
-          g.closed (omega (arith, past, g.known)) r (subst (λ (y : Stage). Restores x sums copy y r) (ends.2 (omega (arith, past, g.known))) restores)
+      by : (o : Option ℕ) → next ≡ o → MatchOption o (stage ≡ Stage'.Found) (λ code. stage ≡ Stage'.Open) → r ≡ run (function_of t) budget start
+      by None e f = passed_found pass e (subst (λ (y : Stage). Restores x sums copy y r) f restores)
+      by (Some code) e f =
+          let some : next ≢ None = λ none. absurd (cc) in
+          passed_open pass e (all some) (subst (λ (y : Stage). Restores x sums copy y r) f restores)
+
+  -- after the loop the state with its vectors, in its stage, is the machine's
+  pub going_ends : {m : ℕ} {x : State} {sums copy : List ℤ} {next : Option ℕ} {looped : Bool} {stage : Stage} {r : State}
+      → Going t start budget m x sums copy next looped
+      → (looped ≡ true → stage ≡ Stage'.Looped) × (looped ≡ false → MatchOption next (stage ≡ Stage'.Found) (λ code. stage ≡ Stage'.Open))
+      → (next ≢ None → budget ≤ m)
+      → Restores x sums copy stage r → r ≡ run (function_of t) budget start
+  going_ends {x = x} {sums = sums} {copy = copy} {looped = looped} {r = r} g is all restores = by looped refl
+    where
+      by : (b : Bool) → looped ≡ b → r ≡ run (function_of t) budget start
+      by true e = g.closed e r (subst (λ (y : Stage). Restores x sums copy y r) (is.0 e) restores)
+      by false e = passed_ends (g.still e) (is.1 e) all restores

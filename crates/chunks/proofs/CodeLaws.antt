@@ -1,7 +1,7 @@
--- Laws of the code of the row that a search found: 512 is no row's, and half of any other is the row. Assumes nothing.
+-- Laws of the code of the row that a search found: half of it is the row. Assumes nothing.
 use Rattle.std.specs.Prelude.{◌≡◌, ℕ, ◌/◌, ◌<◌, ◌≤◌, Bool, true, false, ◌≢◌}
 use mathlib.Core.Path.{refl, sym, ◌∙◌, ap}
-use mathlib.Core.Option.{Option, some, none}
+use Rattle.std.specs.Prelude.{Option, Some, None}
 use native.Mathlib.Omega.{arith}
 use Rattle.types.specs.declared.table.Table.{Table}
 use Rattle.table.specs.Table.{value, function_of}
@@ -21,24 +21,23 @@ pub code_below : (y : Bool) (r : ℕ) → r < 256 → row_code y r < 512
 code_below true r h = omega arith
 code_below false r h = omega arith
 
-module _ (t : Table) (v : Vector) {next : ℕ} (e : next ≡ found_code t (failing (function_of t) v)) where
-  -- 512 is no row's code: no row fails
-  pub no_row : t.n ≤ 8 → next ≡ 512 → failing (function_of t) v ≡ none
-  no_row n is = by (failing (function_of t) v) refl e
+module _ (t : Table) (v : Vector) where
+  -- where nothing is found no row fails
+  pub no_row : None ≡ found_code t (failing (function_of t) v) → failing (function_of t) v ≡ None
+  no_row = by (failing (function_of t) v)
     where
-      by : (o : Option ℕ) → failing (function_of t) v ≡ o → next ≡ found_code t o → failing (function_of t) v ≡ none
-      by none f g = f
-      by (some r) f g =
-          let row : r < 256 = omega (arith, (failing_some (function_of t) v r f).inside, rows_le n) in
-          absurd (omega (arith, code_below (value t r) r row))
+      by : (o : Option ℕ) → None ≡ found_code t o → o ≡ None
+      by None e = refl
+      by (Some r) e = cc
 
-  -- any other number is the code of the lowest failing row, which is its half
-  pub row_is : next ≢ 512 → (failing (function_of t) v ≡ some (next / 2)) × (next ≡ row_code (value t (next / 2)) (next / 2))
-  row_is other = by (failing (function_of t) v) refl e
+  -- what is found is the code of the lowest failing row, which is its half
+  pub row_is : {code : ℕ} → Some code ≡ found_code t (failing (function_of t) v)
+      → (failing (function_of t) v ≡ Some (code / 2)) × (code ≡ row_code (value t (code / 2)) (code / 2))
+  row_is {code} = by (failing (function_of t) v)
     where
-      by : (o : Option ℕ) → failing (function_of t) v ≡ o → next ≡ found_code t o
-          → (failing (function_of t) v ≡ some (next / 2)) × (next ≡ row_code (value t (next / 2)) (next / 2))
-      by none f g = absurd (other g)
-      by (some r) f g =
-          let half : r ≡ next / 2 = sym (ap (λ (x : ℕ). x / 2) g ∙ half_code (value t r) r) in
-          (f ∙ ap some half, g ∙ ap (λ (x : ℕ). row_code (value t x) x) half)
+      by : (o : Option ℕ) → Some code ≡ found_code t o → (o ≡ Some (code / 2)) × (code ≡ row_code (value t (code / 2)) (code / 2))
+      by None e = cc
+      by (Some r) e =
+          let same : code ≡ row_code (value t r) r = cc in
+          let half : r ≡ code / 2 = sym (ap (λ (x : ℕ). x / 2) same ∙ half_code (value t r) r) in
+          (ap Some half, same ∙ ap (λ (x : ℕ). row_code (value t x) x) half)

@@ -2,6 +2,7 @@
 -- With them the state stands where the machine does (`Unsettled` of UnsettledLaws), and v is small enough for places of 16 bits. Assumes nothing.
 use Rattle.std.specs.Prelude.{◌≡◌, ℕ, ◌+◌, ◌*◌, ◌<◌, ◌≤◌, Bool, true, List, length, ℤ}
 use mathlib.Core.Path.{◌∙◌, ap}
+use Rattle.std.specs.Prelude.{Option}
 use native.Mathlib.Omega.{arith}
 use Rattle.types.specs.declared.table.Table.{Table}
 use Rattle.table.specs.Gate.{in_range}
@@ -50,7 +51,7 @@ follows_start {x = x} sound e small current copied = record {
 }
 
 -- what the contracts of the code say of any vectors that have the sums: of `lowest`, `correct` and `same_sums`; and a state with such vectors
-abbrev pub Searches : Table → List ℤ → ℕ → Type 0
+abbrev pub Searches : Table → List ℤ → Option ℕ → Type 0
 Searches t sums next =
     (k : ℕ) (v : Vector) → length v.a ≡ 8 → in_range k t.n v.a v.b ≡ true → sums ≡ vector_sums v
     → next ≡ found_code t (failing (function_of t) v)

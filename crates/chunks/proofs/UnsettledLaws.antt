@@ -3,14 +3,11 @@
 -- is sound, are those of the loop's, since a stage changes none of them. Assumes nothing.
 use Rattle.std.specs.Prelude.{◌≡◌, ℕ, ◌+◌, ◌<◌, ◌≤◌, Bool, true, false, eqb, ◌≢◌, get_or}
 use mathlib.Core.Path.{refl, sym, ◌∙◌, ap, subst}
-use mathlib.Core.Option.{Option, some, none}
+use Rattle.std.specs.Prelude.{Option, Some, None}
 use native.Mathlib.Numerals.{add-one}
 use native.Mathlib.Omega.{arith}
-use Rattle.table.proofs.InputLaws.{lowest_some, lowest_none}
-use Rattle.table.specs.declared.lowest.Lowest.TheVariants.{At, Nowhere}
 use Rattle.table.specs.Table.{rows, value, function_of}
 use Rattle.table.specs.Gate.{weight_limit, in_range}
-use Rattle.table.specs.Inputs.{lowest_of}
 use Rattle.table.proofs.TableLaws.{table_fits}
 use Rattle.types.specs.declared.table.Table.{Table}
 use Rattle.types.specs.declared.vector.Vector.{Vector}
@@ -64,22 +61,18 @@ corrected_to r v x = record {
 
 module _ {t : Table} {start : State} {m : ℕ} {x : State} (s : Unsettled t start m x) where
   -- where no row fails, the state is found, and stays so
-  pub unsettled_found : (budget : ℕ) → m ≤ budget → lowest_of (failing (function_of t) x.v) ≡ Nowhere → with_stage Stage'.Found x ≡ run (function_of t) budget start
+  pub unsettled_found : (budget : ℕ) → m ≤ budget → failing (function_of t) x.v ≡ None → with_stage Stage'.Found x ≡ run (function_of t) budget start
   unsettled_found budget h f =
-      let passes = lowest_none (failing (function_of t) x.v) f in
-      run_stays (function_of t) start (with_stage Stage'.Found x) m budget h (sym (settled_found (function_of t) x passes) ∙ s.machine) found_ended
+      run_stays (function_of t) start (with_stage Stage'.Found x) m budget h (sym (settled_found (function_of t) x f) ∙ s.machine) found_ended
 
-  module _ {r : ℕ} (f : lowest_of (failing (function_of t) x.v) ≡ At r) where
-    fails : failing (function_of t) x.v ≡ some r
-    fails = lowest_some (failing (function_of t) x.v) r f
-
+  module _ {r : ℕ} (f : failing (function_of t) x.v ≡ Some r) where
     -- a row that is found is a row of the table
     pub unsettled_row : r < rows t
-    unsettled_row = omega (arith, (failing_some (function_of t) x.v r (lowest_some (failing (function_of t) x.v) r f)).inside)
+    unsettled_row = omega (arith, (failing_some (function_of t) x.v r f).inside)
 
     -- the state is then the machine's
     pub unsettled_open : x ≡ run (function_of t) m start
-    unsettled_open = sym (settled_open (function_of t) x r fails) ∙ s.machine
+    unsettled_open = sym (settled_open (function_of t) x r f) ∙ s.machine
 
     -- v is the vector after the correction by the row
     module _ {y : Bool} {v : Vector} (e : y ≡ value t r) (w : v ≡ corrected_by y (level 2 r) x.v) where
@@ -88,7 +81,7 @@ module _ {t : Table} {start : State} {m : ℕ} {x : State} (s : Unsettled t star
       unsettled_step =
           ap (closed (function_of t)) (λ i. corrected_to r (corrects i) x)
           ∙ sym (ap (closed (function_of t)) (corrected_is (function_of t) r x))
-          ∙ sym (step_open (function_of t) x r s.stage fails)
+          ∙ sym (step_open (function_of t) x r s.stage f)
           ∙ ap (step (function_of t)) unsettled_open
           ∙ sym (run_suc (function_of t) m start)
           ∙ ap (λ (n : ℕ). run (function_of t) n start) (sym (add-one m))
@@ -142,5 +135,5 @@ unsettled_bounded {t} {start} {m} {x} n sound l s = by (failing (function_of t) 
     machine = subst (Sound (function_of t)) (sym s.machine) (run_sound_from (function_of t) start (table_fits t n) sound m l)
 
     by : (o : Option ℕ) → failing (function_of t) x.v ≡ o → Bounded t x
-    by none f = sound_bounded Stage'.Found x (λ e. let z : ◌≡◌ {A = ℕ} 0 1 = cc in omega arith) (subst (Sound (function_of t)) (settled_found (function_of t) x f) machine)
-    by (some r) f = sound_bounded x.stage x (λ e. binate_ended (sym e ∙ s.stage)) (subst (Sound (function_of t)) (settled_open (function_of t) x r f) machine)
+    by None f = sound_bounded Stage'.Found x (λ e. let z : ◌≡◌ {A = ℕ} 0 1 = cc in omega arith) (subst (Sound (function_of t)) (settled_found (function_of t) x f) machine)
+    by (Some r) f = sound_bounded x.stage x (λ e. binate_ended (sym e ∙ s.stage)) (subst (Sound (function_of t)) (settled_open (function_of t) x r f) machine)

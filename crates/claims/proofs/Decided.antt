@@ -1,5 +1,8 @@
 -- What is decided is right: a job that keeps its rules is sound, so what it has come to is right by its stage, in whatever form it is
 -- shown. The report's lines go by induction over its records. Assumes nothing.
+use Rattle.records.specs.declared.record.Record.TheVariants as Record'
+use Rattle.std.specs.Prelude.{Ok, Err}
+use Rattle.types.specs.declared.refusal.Refusal.TheVariants as Refusal'
 use mathlib.Core.Path.{◌≡◌, refl, sym, ◌∙◌, ap, subst}
 use mathlib.Core.Bool.{Bool, true, false, not, cond}
 use mathlib.Core.Logic.{inl, inr}
@@ -16,7 +19,7 @@ use Rattle.types.specs.declared.stage.Stage.TheVariants.{Open, Found, Looped, Bi
 use Rattle.numbers.proofs.TestLaws.{no_true}
 use Rattle.types.specs.declared.gate.Gate.{Gate}
 use Rattle.table.specs.Table.{rows}
-use Rattle.refusal.specs.Refusal.{Rule, Answered, answered, refused, NoneBroken, also, and_then}
+use Rattle.refusal.specs.Refusal.{Rule, Answered, NoneBroken, also, and_then}
 use Rattle.refusal.specs.TableRules.{table_rules}
 use Rattle.refusal.proofs.RefusalLaws.{answered_none_broken, rule_kept}
 use Rattle.refusal.proofs.TableChecked.{kept_inputs, table_kept}
@@ -31,9 +34,8 @@ use Rattle.codec.specs.Field.{Reading}
 use Rattle.codec.specs.TableField.{table_record_at}
 use Rattle.codec.proofs.TableFieldLaws.{record_read}
 use Rattle.codec.proofs.StandsLaws.{AllBytes}
-use Rattle.records.specs.Record.{Record, of_table, of_gate, of_witness, of_job, record_bytes, read_record}
-use Rattle.records.specs.Calls.{as_read}
-use Rattle.results.specs.Result.{case_of}
+use Rattle.records.specs.declared.record.Record.{Record}
+use Rattle.records.specs.Record.{record_bytes, read_record}
 use Rattle.writers.specs.Calls.{record_rules, too_short, fitted}
 use Rattle.writers.proofs.WriteBack.{write_back}
 use Rattle.reporting.specs.declared.tally.Tally.{Tally}
@@ -108,8 +110,8 @@ module _ (s : List ℕ) where
   -- the record at a position, where the rest of the report is right
   right_record : (rest : ℕ → Tally → List ℕ) (at : ℕ) (t : Tally) (r : Reading Table) → table_record_at s at ≡ r → at < length s
       → ((next : ℕ) (u : Tally) → at < next → RightLines s next u (rest next u)) → RightLines s at t (record_then rest t r)
-  right_record rest at t (refused n) e here later = refusal t n here e
-  right_record rest at t (answered f) e here later =
+  right_record rest at t (Err n) e here later = refusal t n here e
+  right_record rest at t (Ok f) e here later =
       let j = decided f.value in
       let u = counted j.state.stage j.state.k t in
       table f e (right_line f.value (record_read s at f e).taken (t.records + 1))
@@ -137,28 +139,28 @@ module _ (s : List ℕ) where
 -- ---- the records that the C interface hands back
 
 -- an answer came of an answer
-and_then_lem : {A B : Type 0} (a : Answered A) (later : A → Answered B) (b : B) → and_then a later ≡ answered b → (x : A) × (a ≡ answered x) × (later x ≡ answered b)
-and_then_lem (answered x) later b e = (x, refl, e)
-and_then_lem (refused n) later b e = let z : ◌≡◌ {A = ℕ} 0 1 = cc in absurd (omega arith)
+and_then_lem : {A B : Type 0} (a : Answered A) (later : A → Answered B) (b : B) → and_then a later ≡ Ok b → (x : A) × (a ≡ Ok x) × (later x ≡ Ok b)
+and_then_lem (Ok x) later b e = (x, refl, e)
+and_then_lem (Err n) later b e = cc
 
 -- a table that was read keeps its format, since a record that was read keeps the rules of a writer
-read_taken : (s : List ℕ) → AllBytes s → (t : Table) → read_record s ≡ answered (of_table t) → Taken t
+read_taken : (s : List ℕ) → AllBytes s → (t : Table) → read_record s ≡ Ok (Record'.Table t) → Taken t
 read_taken s bytes t e =
-    let x = of_table t in
+    let x = Record'.Table t in
     table_kept t (answered_none_broken (record_rules x (too_short (length s) (record_bytes x) ∷ [])) (record_bytes x) s (write_back s bytes x e (length s) (omega arith))).0
 
 -- what is taken of a run, with what K grew by
-taken_with_lem : {A : Type 0} (takes : Job → Answered A) (j : Job) (b : ℕ) (h : Handed A) → taken_with takes j (run b j) ≡ answered h
-    → (takes (run b j) ≡ answered h.value) × (h.made + j.state.k ≡ (run b j).state.k)
+taken_with_lem : {A : Type 0} (takes : Job → Answered A) (j : Job) (b : ℕ) (h : Handed A) → taken_with takes j (run b j) ≡ Ok h
+    → (takes (run b j) ≡ Ok h.value) × (h.made + j.state.k ≡ (run b j).state.k)
 taken_with_lem {A} takes j b h e =
     let m = run b j in
     let (x, ex, eh) = and_then_lem (takes m) _ h e in
     let same : record { value = x; made = m.state.k - j.state.k } ≡ h = cc in
-    (ex ∙ ap (λ (g : Handed A). answered g.value) same, ap (λ (g : Handed A). g.made + j.state.k) (sym same) ∙ omega (arith, run_grows j b))
+    (ex ∙ ap (λ (g : Handed A). Ok g.value) same, ap (λ (g : Handed A). g.made + j.state.k) (sym same) ∙ omega (arith, run_grows j b))
 
 -- what is handed back of a run is right
 right_handed : (t : Table) (j : Job) (b room : ℕ) (h : Handed (List ℕ)) → j.table ≡ t → NoneBroken (job_rules (run b j) [])
-    → handed_back room j (run b j) ≡ answered h → RightHanded t j (run b j) h
+    → handed_back room j (run b j) ≡ Ok h → RightHanded t j (run b j) h
 right_handed t j b room h e kept handed =
     let m = run b j in
     let (took, made) = taken_with_lem (outcome_written room) j b h handed in
@@ -188,7 +190,7 @@ module _ (j : Job) (b : ℕ) (kept : NoneBroken (job_rules (run b j) [])) where
   abbrev m : Job
   m = run b j
 
-  right_gate_found : (room : ℕ) (h : Handed Gate) → taken_with (gate_found room) j m ≡ answered h → RightFound j m Gate (RightGate j.table) h
+  right_gate_found : (room : ℕ) (h : Handed Gate) → taken_with (gate_found room) j m ≡ Ok h → RightFound j m Gate (RightGate j.table) h
   right_gate_found room h e =
       let (took, made) = taken_with_lem (gate_found room) j b h e in
       let (has, fits) = rules_answered (not_found (has_gate m.state.stage) ∷ []) (fitted_gate room (gate_of m)) h.value took in
@@ -200,7 +202,7 @@ module _ (j : Job) (b : ℕ) (kept : NoneBroken (job_rules (run b j) [])) where
       } in
       record { found = subst (λ (t : Table). RightGate t h.value) (run_table b j) (subst (RightGate m.table) same right); made = made }
 
-  right_counts_found : (room : ℕ) (h : Handed (List ℕ)) → taken_with (counts_found room) j m ≡ answered h → RightFound j m (List ℕ) (RightCounts j.table) h
+  right_counts_found : (room : ℕ) (h : Handed (List ℕ)) → taken_with (counts_found room) j m ≡ Ok h → RightFound j m (List ℕ) (RightCounts j.table) h
   right_counts_found room h e =
       let (took, made) = taken_with_lem (counts_found room) j b h e in
       let counts = counts_of m.table (witness_of m) in
@@ -210,19 +212,17 @@ module _ (j : Job) (b : ℕ) (kept : NoneBroken (job_rules (run b j) [])) where
       record { found = subst (λ (t : Table). RightCounts t h.value) (run_table b j) right; made = made }
 
 -- the job of a record is that of what was read
-begins : (s : List ℕ) (r : Answered Record) → read_record s ≡ r → (j : Job) → job_in (as_read r) ≡ answered j → Begins s j
-unfolding case_of
-begins s (answered (of_table t)) e j k = let same : fresh t ≡ j = cc in subst (Begins s) same (of_table_lem t e)
-begins s (answered (of_gate t g)) e j k = let z : ◌≡◌ {A = ℕ} 0 1 = cc in absurd (omega arith)
-begins s (answered (of_witness t w)) e j k = let z : ◌≡◌ {A = ℕ} 0 1 = cc in absurd (omega arith)
-begins s (answered (of_job i)) e j k = let same : i ≡ j = cc in subst (Begins s) same (of_job_lem i e)
-begins s (refused n) e j k = let z : ◌≡◌ {A = ℕ} 0 1 = cc in absurd (omega arith)
+begins : (s : List ℕ) (r : Answered Record) → read_record s ≡ r → (j : Job) → and_then r job_in ≡ Ok j → Begins s j
+begins s (Ok (Record'.Table t)) e j k = let same : fresh t ≡ j = cc in subst (Begins s) same (of_table_lem t e)
+begins s (Ok (Record'.Gate t g)) e j k = cc
+begins s (Ok (Record'.Witness t w)) e j k = cc
+begins s (Ok (Record'.Job i)) e j k = let same : i ≡ j = cc in subst (Begins s) same (of_job_lem i e)
+begins s (Err n) e j k = cc
 
 -- and the call is given it
-begun : (s : List ℕ) {j : Job} → Begins s j → job_for s ≡ answered j
-unfolding case_of
-begun s (of_table_lem t e) = ap (λ (r : Answered Record). job_in (as_read r)) e
-begun s (of_job_lem j e) = ap (λ (r : Answered Record). job_in (as_read r)) e
+begun : (s : List ℕ) {j : Job} → Begins s j → job_for s ≡ Ok j
+begun s (of_table_lem t e) = ap (λ (r : Answered Record). and_then r job_in) e
+begun s (of_job_lem j e) = ap (λ (r : Answered Record). and_then r job_in) e
 
 -- ---- one of the finds answers
 
@@ -231,21 +231,21 @@ take_fits : {A : Type 0} (n : ℕ) (xs : List A) → ltb n (length (take n xs)) 
 take_fits n xs = le-ltb n (length (take n xs)) (omega (arith, length-take n xs, min-le_left n (length xs)))
 
 -- an ended job has its gate, or its counts
-gate_there : (m : Job) → m.state.stage ≡ Found → gate_found m.table.n m ≡ answered (gate_of m)
-gate_there m e = simp e (sym (rule_kept 12 [] (answered (gate_of m)) (take_fits m.table.n (gate_of m).weights)))
+gate_there : (m : Job) → m.state.stage ≡ Found → gate_found m.table.n m ≡ Ok (gate_of m)
+gate_there m e = simp e (sym (rule_kept Refusal'.Room [] (Ok (gate_of m)) (take_fits m.table.n (gate_of m).weights)))
 
-counts_there : (m : Job) → EndedWithout m → counts_found (rows m.table) m ≡ answered (counts_of m.table (witness_of m))
-counts_there m (inl e) = simp e (sym (rule_kept 12 [] (answered (counts_of m.table (witness_of m))) (take_fits (rows m.table) (witness_of m).counts)))
-counts_there m (inr e) = simp e (sym (rule_kept 12 [] (answered (counts_of m.table (witness_of m))) (take_fits (rows m.table) (witness_of m).counts)))
+counts_there : (m : Job) → EndedWithout m → counts_found (rows m.table) m ≡ Ok (counts_of m.table (witness_of m))
+counts_there m (inl e) = simp e (sym (rule_kept Refusal'.Room [] (Ok (counts_of m.table (witness_of m))) (take_fits (rows m.table) (witness_of m).counts)))
+counts_there m (inr e) = simp e (sym (rule_kept Refusal'.Room [] (Ok (counts_of m.table (witness_of m))) (take_fits (rows m.table) (witness_of m).counts)))
 
 -- a job that a record begins with, and the next, after a carry-on
-module _ (s : List ℕ) (j next : Job) (budget : ℕ) (from : Begins s j) (carries : carry_on j budget ≡ answered next) where
+module _ (s : List ℕ) (j next : Job) (budget : ℕ) (from : Begins s j) (carries : carry_on j budget ≡ Ok next) where
   abbrev made : ℕ
   made = next.state.k - j.state.k
 
   -- what is there for a call is handed back
-  handed_there : {A : Type 0} (takes : Job → Answered A) (x : A) → takes next ≡ answered x
-      → and_then (job_for s) (taken_after budget takes) ≡ answered (record { value = x; made = made })
+  handed_there : {A : Type 0} (takes : Job → Answered A) (x : A) → takes next ≡ Ok x
+      → and_then (job_for s) (taken_after budget takes) ≡ Ok (record { value = x; made = made })
   handed_there {A} takes x there =
       ap (λ (a : Answered Job). and_then a (taken_after budget takes)) (begun s from)
       ∙ ap (λ (a : Answered Job). and_then a (taken_with takes j)) carries
@@ -258,37 +258,37 @@ module _ (s : List ℕ) (j next : Job) (budget : ℕ) (from : Begins s j) (carri
   found_in Binate e = counts_found_lem _ (handed_there (counts_found (rows next.table)) (counts_of next.table (witness_of next)) (counts_there next (inr e)))
 
 module _ (s : List ℕ) (all : AllBytes s) where
-  right_decide : (room : ℕ) (h : Handed (List ℕ)) → decide s room ≡ answered h
-      → (t : Table) × (read_record s ≡ answered (of_table t)) × RightHanded t (fresh t) (decided t) h
+  right_decide : (room : ℕ) (h : Handed (List ℕ)) → decide s room ≡ Ok h
+      → (t : Table) × (read_record s ≡ Ok (Record'.Table t)) × RightHanded t (fresh t) (decided t) h
   right_decide room h e =
       let (t, et, handed) = and_then_lem (table_read s) _ h e in
       let read = is_table (read_record s) t et in
       (t, read, right_handed t (fresh t) call_budget room h (fresh_table t) (decided_kept t (read_taken s all t read)) handed)
 
   -- of a job that is carried on
-  carried_run : {A : Type 0} (takes : Job → Answered A) (j : Job) (budget : ℕ) (h : Handed A) → taken_after budget takes j ≡ answered h
-      → NoneBroken (job_rules (run budget j) []) × (taken_with takes j (run budget j) ≡ answered h)
+  carried_run : {A : Type 0} (takes : Job → Answered A) (j : Job) (budget : ℕ) (h : Handed A) → taken_after budget takes j ≡ Ok h
+      → NoneBroken (job_rules (run budget j) []) × (taken_with takes j (run budget j) ≡ Ok h)
   carried_run takes j budget h e =
       let (next, en, handed) = and_then_lem (carry_on j budget) _ h e in
       let same = carried_on_lem j next budget en in
       (subst (λ (i : Job). NoneBroken (job_rules i [])) same (carried_kept j next budget en), ap (taken_with takes j) (sym same) ∙ handed)
 
-  right_carry_on : (budget room : ℕ) (h : Handed (List ℕ)) → carried_on s budget room ≡ answered h
-      → (j : Job) × (read_record s ≡ answered (of_job j)) × RightHanded j.table j (run budget j) h
+  right_carry_on : (budget room : ℕ) (h : Handed (List ℕ)) → carried_on s budget room ≡ Ok h
+      → (j : Job) × (read_record s ≡ Ok (Record'.Job j)) × RightHanded j.table j (run budget j) h
   unfolding carried_on
   right_carry_on budget room h e =
       let (j, ej, ec) = and_then_lem (job_read s) _ h e in
       let (kept, handed) = carried_run (outcome_written room) j budget h ec in
       (j, is_job (read_record s) j ej, right_handed j.table j budget room h refl kept handed)
 
-  right_find_gate : (budget room : ℕ) (h : Handed Gate) → find_gate s budget room ≡ answered h
+  right_find_gate : (budget room : ℕ) (h : Handed Gate) → find_gate s budget room ≡ Ok h
       → (j : Job) × Begins s j × RightFound j (run budget j) Gate (RightGate j.table) h
   right_find_gate budget room h e =
       let (j, ej, after) = and_then_lem (job_for s) _ h e in
       let (kept, handed) = carried_run (gate_found room) j budget h after in
       (j, begins s (read_record s) refl j ej, right_gate_found j budget kept room h handed)
 
-  right_find_witness : (budget room : ℕ) (h : Handed (List ℕ)) → find_witness s budget room ≡ answered h
+  right_find_witness : (budget room : ℕ) (h : Handed (List ℕ)) → find_witness s budget room ≡ Ok h
       → (j : Job) × Begins s j × RightFound j (run budget j) (List ℕ) (RightCounts j.table) h
   right_find_witness budget room h e =
       let (j, ej, after) = and_then_lem (job_for s) _ h e in

@@ -2,10 +2,11 @@
 -- with none it is found. Assumes nothing.
 use mathlib.Core.Path.{◌≡◌, refl, sym, ◌∙◌, ap}
 use mathlib.Core.Bool.{Bool, true, false, not, ◌&&◌, ◌||◌}
-use mathlib.Core.Option.{Option, some, none}
+use Rattle.std.specs.Prelude.{Option, Some, None}
 use Prim.Native.Nat.{ℕ, ◌<◌}
 use native.Mathlib.Omega.{arith}
-use Rattle.numbers.specs.Tests.{first_from, is_some}
+use Rattle.numbers.specs.Tests.{first_from}
+use Rattle.std.specs.Prelude.{is_some}
 use Rattle.numbers.proofs.TestLaws.{no_true, all_below_at}
 use Rattle.numbers.proofs.FirstLaws.{first_none, first_fails}
 use Rattle.types.specs.declared.table.Table.{Table}
@@ -33,22 +34,22 @@ free_row_false t e r h free = by (value t r) (cared t r) free (all_below_at (row
 
 module _ (t : Table) where
   -- a row that is cared for fails at the vector 0, so that the job is open
-  pub unate_open : binate_place (function_of t) ≡ none → (r : ℕ) → r < rows t → cared t r ≡ true → state.fresh (function_of t) ≡ state.start_state zeros Open
+  pub unate_open : binate_place (function_of t) ≡ None → (r : ℕ) → r < rows t → cared t r ≡ true → state.fresh (function_of t) ≡ state.start_state zeros Open
   unate_open unate r h care = by (first_from (cared t) (rows t) 0) refl
     where
       by : (first : Option ℕ) → first_from (cared t) (rows t) 0 ≡ first → state.fresh (function_of t) ≡ state.start_state zeros Open
-      by none e = absurd (no_true (sym (first_none (cared t) (rows t) 0 e r (omega arith) (omega arith)) ∙ care))
-      by (some q) e = fresh_open (function_of t) q unate (zero_failing t ∙ e)
+      by None e = absurd (no_true (sym (first_none (cared t) (rows t) 0 e r (omega arith) (omega arith)) ∙ care))
+      by (Some q) e = fresh_open (function_of t) q unate (zero_failing t ∙ e)
 
   module _ (free : (r : ℕ) → r < rows t → cared t r ≡ false) where
     -- no row turns, so no input is binate
-    no_turn : (to : Bool) (place : ℕ) → first_turn (function_of t) to place ≡ none
+    no_turn : (to : Bool) (place : ℕ) → first_turn (function_of t) to place ≡ None
     unfolding first_turn
     no_turn to place =
         first_fails (turns_at (function_of t) to place) (rows t) 0
         (λ r l k. table_turns t to place r ∙ rw (free r (omega arith)))
 
-    no_binate : binate_place (function_of t) ≡ none
+    no_binate : binate_place (function_of t) ≡ None
     unfolding binate_place binate_at
     no_binate = first_fails (binate_at (function_of t)) t.n 0 (λ place l k. ap (λ (o : Option ℕ). is_some o && is_some (first_turn (function_of t) false place)) (no_turn true place))
 

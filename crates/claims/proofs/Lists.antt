@@ -1,10 +1,11 @@
 -- Every list of calls from the fresh job of a table is the machine, by induction over the list from any sound job. The law that a saved
 -- job is read back is a parameter. Assumes nothing.
+use Rattle.records.specs.declared.record.Record.TheVariants as Record'
+use Rattle.std.specs.Prelude.{Ok}
 use mathlib.Core.Path.{◌≡◌, refl, sym, ◌∙◌, ap, subst}
 use mathlib.Core.List.{List, [], ◌∷◌}
 use Prim.Native.Nat.{◌≤◌}
 use Rattle.types.specs.declared.table.Table.{Table}
-use Rattle.refusal.specs.Refusal.{answered}
 use Rattle.refusal.specs.TableRules.{table_rules}
 use Rattle.refusal.proofs.RefusalLaws.{answered_none_broken}
 use Rattle.refusal.proofs.TableChecked.{kept_inputs}
@@ -15,7 +16,6 @@ use Rattle.job.specs.Calls.{fresh_job}
 use Rattle.job.proofs.MachineLaws.{fresh_table, run_zero, run_add, run_table}
 use Rattle.job.proofs.Soundness.{fresh_sound, run_grows}
 use Rattle.codec.proofs.TableFieldLaws.{Held}
-use Rattle.records.specs.Record.{of_job}
 use Rattle.theory.proofs.Bound.{bound_on_k}
 use Rattle.claims.specs.Records.{ReadsBack}
 use Rattle.claims.specs.Lists.{Call, After, called, replies, after, machine_reply, machine_replies, accepted, fed, ListIsTheMachine, CallsAreTheMachine}
@@ -28,7 +28,7 @@ record Walks (j : Job) : Type 0 where
   sound : Sound j
 
 -- the fresh job of a table begins the walk
-fresh_walks : (t : Table) (j : Job) → Held t → fresh_job t ≡ answered j → (fresh t ≡ j) × (t.n ≤ 8) × Walks j
+fresh_walks : (t : Table) (j : Job) → Held t → fresh_job t ≡ Ok j → (fresh t ≡ j) × (t.n ≤ 8) × Walks j
 fresh_walks t j l e =
     let made = answered_none_broken (table_rules t []) (fresh t) j e in
     let few = kept_inputs t made.0 in
@@ -43,7 +43,7 @@ walks_on j c w = record {
   sound = accepted_sound j c w.few w.sound;
 }
 
-module _ (read_back : (j : Job) → Held j.table → ReadsBack (of_job j)) where
+module _ (read_back : (j : Job) → Held j.table → ReadsBack (Record'.Job j)) where
   -- the replies are the machine's, call for call
   same_replies : (cs : List Call) (j : Job) → Held j.table → replies j cs ≡ machine_replies j cs
   unfolding replies machine_replies
@@ -67,7 +67,7 @@ module _ (read_back : (j : Job) → Held j.table → ReadsBack (of_job j)) where
   pub calls_are_the_machine : (t : Table) → Held t → CallsAreTheMachine t
   calls_are_the_machine t l = record { list = list; refusal = reply_number; grows = λ m b. run_grows m b }
     where
-      list : (j : Job) → fresh_job t ≡ answered j → (cs : List Call) → ListIsTheMachine t j cs
+      list : (j : Job) → fresh_job t ≡ Ok j → (cs : List Call) → ListIsTheMachine t j cs
       list j e cs =
           let start = fresh_walks t j l e in
           let walked = walk cs j start.2 in

@@ -1,5 +1,5 @@
 -- What is claimed, in statements alone. Each cites the definitions that the contracts cite. Assumes nothing.
-use Rattle.std.specs.Prelude.{◌≡◌, true, ◌↔◌, List, [], ℕ, ℤ}
+use Rattle.std.specs.Prelude.{◌≡◌, true, ◌↔◌, List, [], ℕ, ℤ, Ok, Err}
 use Rattle.types.specs.declared.table.Table.{Table}
 use Rattle.types.specs.declared.gate.Gate.{Gate}
 use Rattle.types.specs.declared.witness.Witness.{Witness}
@@ -8,16 +8,17 @@ use Rattle.function.specs.Gate.{gate_true, Realises, realises}
 use Rattle.function.specs.Witness.{count_of, Balances, balances}
 use Rattle.table.specs.Inputs.{kinds_of}
 use Rattle.table.specs.Chow.{chow_of}
-use Rattle.refusal.specs.Refusal.{Rule, Answered, answered, refused, FirstBroken, NoneBroken}
+use Rattle.types.specs.declared.refusal.Refusal.{Refusal}
+use Rattle.refusal.specs.Refusal.{Rule, Answered, FirstBroken, NoneBroken}
 use Rattle.cell.specs.Calls.{table_value_rules, table_value, gate_value_rules, gate_value, check_gate_rules, check_gate, check_witness_rules, check_witness, input_kinds, chow_parameters}
 use Rattle.refusal.specs.TableRules.{table_rules}
 use Rattle.function.specs.Function.{level}
 
--- a call goes by its rules: it gives a number exactly where that is the number of the first broken rule, and a value exactly where no
+-- a call goes by its rules: it gives a refusal exactly where that is the first broken rule's, and a value exactly where no
 -- rule is broken and the value is the call's
 pub record ByRules {A : Type 0} (rules : List Rule) (a : A) (call : Answered A) : Type 0 where
-  pub number : (n : ℕ) → call ≡ refused n ↔ FirstBroken n rules
-  pub value : (c : A) → call ≡ answered c ↔ (NoneBroken rules × (a ≡ c))
+  pub number : (e : Refusal) → call ≡ Err e ↔ FirstBroken e rules
+  pub value : (c : A) → call ≡ Ok c ↔ (NoneBroken rules × (a ≡ c))
 
 -- Demand 1, "a refusal comes only on the condition written there": every call of the cell goes by the rules of its order
 pub record NumbersOnTheirConditions : Type 0 where
@@ -31,8 +32,8 @@ pub record NumbersOnTheirConditions : Type 0 where
 -- Demand 2, "within document 01's ranges the checker accepts a gate exactly when it realises the table, and a witness exactly when it
 -- balances": where no rule is broken, the answer is yes exactly then
 pub record CheckerIsExact : Type 0 where
-  pub gate : (t : Table) (g : Gate) → NoneBroken (check_gate_rules t g) → check_gate t g ≡ answered true ↔ Realises g.weights g.threshold (function_of t)
-  pub witness : (t : Table) (w : Witness) → NoneBroken (check_witness_rules t w) → check_witness t w ≡ answered true ↔ Balances (function_of t) (count_of w.counts)
+  pub gate : (t : Table) (g : Gate) → NoneBroken (check_gate_rules t g) → check_gate t g ≡ Ok true ↔ Realises g.weights g.threshold (function_of t)
+  pub witness : (t : Table) (w : Witness) → NoneBroken (check_witness_rules t w) → check_witness t w ≡ Ok true ↔ Balances (function_of t) (count_of w.counts)
 
 -- Demand 2: no integer weights and threshold, of any number and any size, realise a table with a balanced witness
 unfoldable pub WitnessExcludes : Type 0
@@ -40,4 +41,4 @@ WitnessExcludes = (t : Table) (count : ℕ → ℕ) → Balances (function_of t)
 
 -- Demand 2: a yes to a witness, from anyone, is enough
 unfoldable pub CheckedWitnessExcludes : Type 0
-CheckedWitnessExcludes = (t : Table) (w : Witness) → check_witness t w ≡ answered true → (ws : List ℤ) (th : ℤ) → ¬ Realises ws th (function_of t)
+CheckedWitnessExcludes = (t : Table) (w : Witness) → check_witness t w ≡ Ok true → (ws : List ℤ) (th : ℤ) → ¬ Realises ws th (function_of t)

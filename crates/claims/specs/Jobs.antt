@@ -1,8 +1,8 @@
 -- What is claimed of jobs, in statements alone. Each cites the definitions that the contracts cite. Assumes nothing.
-use Rattle.std.specs.Prelude.{◌≡◌, true, ◌↔◌, ◌≢◌, List, [], ◌∷◌, ℕ, ◌+◌, ◌*◌, ◌≤◌, ◌<◌, ℤ, length}
+use Rattle.std.specs.Prelude.{◌≡◌, true, ◌↔◌, ◌≢◌, List, [], ◌∷◌, ℕ, ◌+◌, ◌*◌, ◌≤◌, ◌<◌, ℤ, length, Ok, Err}
 use Rattle.types.specs.declared.table.Table.{Table}
 use Rattle.function.specs.Gate.{Realises}
-use Rattle.refusal.specs.Refusal.{answered, refused, NoneBroken}
+use Rattle.refusal.specs.Refusal.{NoneBroken}
 use Rattle.cell.specs.Calls.{past_rows, check_gate, check_witness}
 use Rattle.refusal.specs.TableRules.{table_rules}
 use Rattle.function.specs.Failing.{fails}
@@ -11,7 +11,9 @@ use Rattle.types.specs.declared.stage.Stage.TheVariants.{Open, Found, Looped, Bi
 use Rattle.job.specs.Machine.{step, run, fresh, decided}
 use Rattle.job.specs.Sound.{cap, Sound, is_sound}
 use Rattle.job.specs.Calls.{call_budget, fresh_job, decided_job, job_rules, budget_range, past_cap, carry_on, carried}
-use Rattle.view.specs.declared.shown.Shown.{Shown}
+use Rattle.types.specs.declared.refusal.Refusal.{Refusal}
+use Rattle.types.specs.declared.gate.Gate.{Gate}
+use Rattle.types.specs.declared.witness.Witness.{Witness}
 use Rattle.view.specs.declared.shown.Verdict.TheVariants as Verdict'
 use Rattle.view.specs.Calls.{row_fails, show_job, shown_in}
 use Rattle.theory.specs.Bound.{squares, factor}
@@ -41,20 +43,20 @@ pub record SoundnessIsKept : Type 0 where
 -- Demand 2, of any job handed in: a gate that is shown has the table's value on every row that is cared for, and the checker accepts it; "not a threshold
 -- function" is said only with a witness that the checker accepts, and then no integer weights and threshold of any size realise the table
 pub record ShownIsRight : Type 0 where
-  pub gate : (j : Job) (s : Shown) → show_job j ≡ answered s → s.verdict ≡ Verdict'.Gate → Realises s.gate.weights s.gate.threshold (function_of j.table)
-  pub gate_accepted : (j : Job) (s : Shown) → show_job j ≡ answered s → s.verdict ≡ Verdict'.Gate → check_gate j.table s.gate ≡ answered true
-  pub witness_accepted : (j : Job) (s : Shown) → show_job j ≡ answered s → s.verdict ≡ Verdict'.Witness → check_witness j.table s.witness ≡ answered true
-  pub no_gate_lem : (j : Job) (s : Shown) → show_job j ≡ answered s → s.verdict ≡ Verdict'.Witness → (ws : List ℤ) (th : ℤ) → ¬ Realises ws th (function_of j.table)
+  pub gate : (j : Job) (g : Gate) → show_job j ≡ Ok (Verdict'.Gate g) → Realises g.weights g.threshold (function_of j.table)
+  pub gate_accepted : (j : Job) (g : Gate) → show_job j ≡ Ok (Verdict'.Gate g) → check_gate j.table g ≡ Ok true
+  pub witness_accepted : (j : Job) (w : Witness) → show_job j ≡ Ok (Verdict'.Witness w) → check_witness j.table w ≡ Ok true
+  pub no_gate_lem : (j : Job) (w : Witness) → show_job j ≡ Ok (Verdict'.Witness w) → (ws : List ℤ) (th : ℤ) → ¬ Realises ws th (function_of j.table)
 
 -- Carry-on is the machine: an accepted call gives the machine's job after the budget or at its end, and its K has grown by the corrections
 -- made; two accepted calls are one run of the sum; a refused call gives the number, the job as it came in, and 0. What is decided in one call is one
 -- carry-on of the whole call budget
 pub record CarryOnIsTheMachine : Type 0 where
-  pub job : (j next : Job) (b : ℕ) → carry_on j b ≡ answered next → next ≡ run b j
-  pub growth : (j next : Job) (b : ℕ) → carry_on j b ≡ answered next → (carried j (carry_on j b)).made + j.state.k ≡ (run b j).state.k
-  pub sum : (j next last : Job) (a b : ℕ) → carry_on j a ≡ answered next → carry_on next b ≡ answered last → last ≡ run (a + b) j
+  pub job : (j next : Job) (b : ℕ) → carry_on j b ≡ Ok next → next ≡ run b j
+  pub growth : (j next : Job) (b : ℕ) → carry_on j b ≡ Ok next → (carried j (carry_on j b)).made + j.state.k ≡ (run b j).state.k
+  pub sum : (j next last : Job) (a b : ℕ) → carry_on j a ≡ Ok next → carry_on next b ≡ Ok last → last ≡ run (a + b) j
   pub decided : (t : Table) → Taken t → carry_on (fresh t) call_budget ≡ decided_job t
-  pub kept : (j : Job) (b n : ℕ) → carry_on j b ≡ refused n → ((carried j (carry_on j b)).job ≡ j) × ((carried j (carry_on j b)).made ≡ 0)
+  pub kept : (j : Job) (b : ℕ) (e : Refusal) → carry_on j b ≡ Err e → ((carried j (carry_on j b)).job ≡ j) × ((carried j (carry_on j b)).made ≡ 0)
 
 -- Demand 3: K is at most (n + 1) × (4 × the sum of the squared weights + (2T − 1) squared) for every choice of n integer weights and a T,
 -- of any size, that realises the table; and the sum of the squares of a1..an and b is at most (n + 1) × K

@@ -1,25 +1,21 @@
 -- Demand 3, one claim about every list of calls, in statements alone (document 01, "The stepping machine"). The program's replies are read
 -- off what the contracts of carry-on, save and read give; the machine's come from the machine and the orders alone. Assumes nothing.
-use Rattle.std.specs.Prelude.{◌≡◌, ◌↔◌, List, [], ◌∷◌, ℕ, ◌+◌, ◌-◌, ◌*◌, ◌≤◌, ℤ, length, take}
+use Rattle.records.specs.declared.record.Record.TheVariants as Record'
+use Rattle.std.specs.Prelude.{◌≡◌, ◌↔◌, List, [], ◌∷◌, ℕ, ◌+◌, ◌-◌, ◌*◌, ◌≤◌, ℤ, length, take, Ok, Err}
 use Rattle.types.specs.declared.table.Table.{Table}
 use Rattle.types.specs.declared.stage.Stage.{Stage}
 use Rattle.types.specs.declared.stage.Stage.TheVariants.{Open, Found, Looped, Binate}
 use Rattle.function.specs.Gate.{Realises}
-use Rattle.refusal.specs.declared.refusal.Status.{Status}
-use Rattle.refusal.specs.declared.refusal.Status.TheVariants as Status'
-use Rattle.refusal.specs.Refusal.{Rule, Answered, answered, refused, checked, FirstBroken}
+use Rattle.refusal.specs.Refusal.{Rule, Answered, checked, FirstBroken}
 use Rattle.job.specs.declared.job.Job.{Job}
 use Rattle.job.specs.declared.job.Carried.{Carried}
 use Rattle.job.specs.Machine.{run}
 use Rattle.job.specs.Sound.{Sound}
 use Rattle.job.specs.Calls.{fresh_job, job_rules, budget_range, past_cap, carry_on, carried}
-use Rattle.types.specs.declared.kind.Kind.{Kind}
-use Rattle.types.specs.declared.kind.Kind.TheVariants as Kind'
-use Rattle.records.specs.declared.read.Read.{Read}
-use Rattle.writers.specs.declared.write.Written.{Written}
-use Rattle.writers.specs.declared.write.Written.TheVariants as Written'
-use Rattle.records.specs.Record.{of_job, record_bytes, read_record}
-use Rattle.records.specs.Calls.{as_read}
+use Rattle.types.specs.declared.refusal.Refusal.{Refusal}
+use Rattle.types.specs.Refusal.{number_of}
+use Rattle.records.specs.declared.record.Record.{Record}
+use Rattle.records.specs.Record.{record_bytes, read_record}
 use Rattle.writers.specs.Calls.{record_rules, too_short, write_record, written, lent}
 use Rattle.theory.specs.Bound.{factor}
 use Rattle.table.specs.Table.{function_of}
@@ -45,33 +41,30 @@ pub record After : Type 0 where
 -- ---- the program's replies: what the contracts give, and nothing besides
 
 -- of carry-on: its status, its corrections made and its job
-abbrev pub carried_reply : Status → ℕ → Reply
-carried_reply Status'.Done corrections = made corrections
-carried_reply (Status'.Refused n) corrections = number n corrections
+abbrev pub carried_reply : Answered (Unit {0}) → ℕ → Reply
+carried_reply (Ok x) corrections = made corrections
+carried_reply (Err e) corrections = number (number_of e) corrections
 
 abbrev pub after_carry : Carried → After
 after_carry c = record { reply = carried_reply c.status c.made; job = c.job }
 
 -- of read: the job of a record that is one takes the old one's place; after anything else the old one would stay, with the number of the
--- refusal, or 0, which no rule has
-abbrev pub replaced_by : Kind → List ℕ → (old next : Job) → After
-replaced_by Kind'.Job bytes old next = record { reply = saved bytes; job = next }
-replaced_by Kind'.Table bytes old next = record { reply = number 0 0; job = old }
-replaced_by Kind'.Gate bytes old next = record { reply = number 0 0; job = old }
-replaced_by Kind'.Witness bytes old next = record { reply = number 0 0; job = old }
-replaced_by (Kind'.Refused n) bytes old next = record { reply = number n 0; job = old }
-
-abbrev pub after_read : Job → List ℕ → Read → After
-after_read old bytes q = replaced_by q.kind bytes old q.job
+-- refusal, or 0, which no refusal has
+abbrev pub after_read : Job → List ℕ → Answered Record → After
+after_read old bytes (Ok (Record'.Job next)) = record { reply = saved bytes; job = next }
+after_read old bytes (Ok (Record'.Table t)) = record { reply = number 0 0; job = old }
+after_read old bytes (Ok (Record'.Gate t g)) = record { reply = number 0 0; job = old }
+after_read old bytes (Ok (Record'.Witness t w)) = record { reply = number 0 0; job = old }
+after_read old bytes (Err e) = record { reply = number (number_of e) 0; job = old }
 
 -- of save: the number of bytes written, which are read from the buffer as the save left it; or a refusal
-abbrev pub after_save : Job → List ℕ → Written → After
-after_save old buffer (Written'.Bytes size) = let bytes = take size buffer in after_read old bytes (as_read (read_record bytes))
-after_save old buffer (Written'.Refused n) = record { reply = number n 0; job = old }
+abbrev pub after_save : Job → List ℕ → Answered ℕ → After
+after_save old buffer (Ok size) = let bytes = take size buffer in after_read old bytes (read_record bytes)
+after_save old buffer (Err e) = record { reply = number (number_of e) 0; job = old }
 
 abbrev pub called : Job → Call → After
 called j (carry_on_by budget) = after_carry (carried j (carry_on j budget))
-called j (save_and_read buffer) = let save = write_record (of_job j) (length buffer) in after_save j (lent buffer save) (written save)
+called j (save_and_read buffer) = let save = write_record (Record'.Job j) (length buffer) in after_save j (lent buffer save) (written save)
 
 -- the replies of a list: each call gets the job that the call before it returned or left
 unfoldable pub replies : Job → List Call → List After
@@ -96,21 +89,21 @@ of_open Binate rules = []
 -- save 2, 3, 16, 9, 13, 12
 abbrev pub call_rules : Job → Call → List Rule
 call_rules m (carry_on_by budget) = job_rules m (budget_range budget ∷ of_open m.state.stage (past_cap m budget ∷ []))
-call_rules m (save_and_read buffer) = record_rules (of_job m) (too_short (length buffer) (record_bytes (of_job m)) ∷ [])
+call_rules m (save_and_read buffer) = record_rules (Record'.Job m) (too_short (length buffer) (record_bytes (Record'.Job m)) ∷ [])
 
 -- an accepted budget runs the machine, and what its K grows by is made; a save writes its job, which stays
 abbrev pub on_machine : Job → Call → After
 on_machine m (carry_on_by budget) = record { reply = made ((run budget m).state.k - m.state.k); job = run budget m }
-on_machine m (save_and_read buffer) = record { reply = saved (record_bytes (of_job m)); job = m }
+on_machine m (save_and_read buffer) = record { reply = saved (record_bytes (Record'.Job m)); job = m }
 
 -- a refused call makes no correction and leaves the job as it was
 abbrev pub or_left : Job → Answered After → After
-or_left m (answered a) = a
-or_left m (refused n) = record { reply = number n 0; job = m }
+or_left m (Ok a) = a
+or_left m (Err e) = record { reply = number (number_of e) 0; job = m }
 
 -- the first broken rule of the order gives its number; where none is broken the call is accepted
 abbrev pub machine_reply : Job → Call → After
-machine_reply m c = or_left m (checked (call_rules m c) (answered (on_machine m c)))
+machine_reply m c = or_left m (checked (call_rules m c) (Ok (on_machine m c)))
 
 unfoldable pub machine_replies : Job → List Call → List After
 machine_replies m [] = []
@@ -119,12 +112,12 @@ machine_replies m (c ∷ cs) = machine_reply m c ∷ machine_replies (machine_re
 -- ---- the machine, fed the accepted budgets alone
 
 abbrev pub budget_if : Answered (Unit {0}) → ℕ → ℕ
-budget_if (answered x) budget = budget
-budget_if (refused n) budget = 0
+budget_if (Ok x) budget = budget
+budget_if (Err e) budget = 0
 
 -- the budget of an accepted carry-on; every other call feeds nothing
 abbrev pub accepted : Job → Call → ℕ
-accepted m (carry_on_by budget) = budget_if (checked (call_rules m (carry_on_by budget)) (answered tt)) budget
+accepted m (carry_on_by budget) = budget_if (checked (call_rules m (carry_on_by budget)) (Ok tt)) budget
 accepted m (save_and_read buffer) = 0
 
 -- the sum of the accepted budgets, each call judged by the machine's job at that point
@@ -147,6 +140,6 @@ pub record ListIsTheMachine (t : Table) (j : Job) (cs : List Call) : Type 0 wher
 -- Every list of calls from the fresh job of the table is the machine; and the machine refuses a call exactly where its order gives a number
 -- for the call's arguments and the machine's job; its K never falls, so that what it grows by is a difference
 pub record CallsAreTheMachine (t : Table) : Type 0 where
-  pub list : (j : Job) → fresh_job t ≡ answered j → (cs : List Call) → ListIsTheMachine t j cs
-  pub refusal : (m : Job) (c : Call) (n : ℕ) → (machine_reply m c).reply ≡ number n 0 ↔ FirstBroken n (call_rules m c)
+  pub list : (j : Job) → fresh_job t ≡ Ok j → (cs : List Call) → ListIsTheMachine t j cs
+  pub refusal : (m : Job) (c : Call) (n : ℕ) → (machine_reply m c).reply ≡ number n 0 ↔ ((e : Refusal) × (number_of e ≡ n) × FirstBroken e (call_rules m c))
   pub grows : (m : Job) (budget : ℕ) → m.state.k ≤ (run budget m).state.k

@@ -1,13 +1,12 @@
 -- What is claimed of a report, in statements and the two definitions that they add (document 01, "Kinds, Chow, report"; document 02, §1 and §2).
 -- They cite the definitions that the contracts of the lines cite. Assumes nothing.
-use Rattle.std.specs.Prelude.{◌≡◌, Bool, true, false, List, [], ◌∷◌, ℕ, ◌+◌, ◌*◌, ◌-◌, ◌%◌, ◌^◌, ◌≤◌, ◌<◌, length, get_or}
+use Rattle.std.specs.Prelude.{◌≡◌, Bool, true, false, List, [], ◌∷◌, ℕ, ◌+◌, ◌*◌, ◌-◌, ◌%◌, ◌^◌, ◌≤◌, ◌<◌, length, get_or, Ok}
 use Rattle.std.specs.Int.Count.{ones}
 use Rattle.numbers.specs.Sum.{sum_below}
 use Rattle.numbers.specs.Tests.{same_bool}
 use Rattle.types.specs.declared.table.Table.{Table}
 use Rattle.function.specs.Witness.{only_if, Balances, count_of}
 use Rattle.table.specs.Table.{value, function_of}
-use Rattle.refusal.specs.Refusal.{answered}
 use Rattle.job.specs.Machine.{fresh, decided}
 use Rattle.job.specs.Calls.{call_budget, carry_on}
 use Rattle.batch.specs.declared.progress.Phase.TheVariants.{Done}
@@ -25,7 +24,7 @@ pub record ReportIsItsLines : Type 0 where
   pub lines : (s : List ℕ) → length s ≤ input_most → (m : ℕ) → length s + 2 ≤ m → lines_from m s start ≡ report s
   pub ends : (s : List ℕ) (m : ℕ) → length s + 2 ≤ m → (after m s start).phase ≡ Done
   pub too_long : (s : List ℕ) → input_most < length s → report s ≡ too_long_line
-  pub decides : (t : Table) → Taken t → carry_on (fresh t) call_budget ≡ answered (decided t)
+  pub decides : (t : Table) → Taken t → carry_on (fresh t) call_budget ≡ Ok (decided t)
 
 -- how far a number of tenths is from the exact mean, in units of a tenth divided by the number of gates
 abbrev pub mean_error : (gates sum tenths : ℕ) → ℕ

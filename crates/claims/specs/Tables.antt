@@ -1,7 +1,7 @@
 -- The definitions over any function, at a table: the documents' own words (document 01, "Table, gate, witness" and "The stepping machine";
 -- document 02, §3), and, where every row is cared for, document 01's. Statements alone. Assumes nothing.
 use Rattle.std.specs.Prelude.{◌≡◌, ◌↔◌, Bool, true, false, not, cond, ◌&&◌, ◌||◌, List, [], ◌∷◌, ℕ, suc, ◌+◌, ◌*◌, ◌^◌, ◌≤◌, ◌<◌, eqb, length, get_or, ℤ, pos, negsuc, ◌+ℤ◌, ◌-ℤ◌}
-use Rattle.std.proofs.Math.Option.{some, none}
+use Rattle.std.specs.Prelude.{Some, None}
 use Rattle.std.specs.Int.Signed.{lt_z, le_z}
 use Rattle.numbers.specs.Sum.{sum_below}
 use Rattle.numbers.specs.Tests.{same_bool}
@@ -60,13 +60,13 @@ pub record TablesAsWritten (t : Table) : Type 0 where
       ≡ (cared t r && (cared t (r + 2 ^ place) && (eqb (level 2 r place) 0 && same_bool (value t r) (not to) && same_bool (value t (r + 2 ^ place)) to)))
   -- a fresh job has all numbers 0 but a binate table's counts, in stage binate; otherwise the stage is open if a row is cared for, and found if
   -- none is
-  pub fresh_unate : binate_place (function_of t) ≡ none → (r : ℕ) → r < 2 ^ t.n → cared t r ≡ true → fresh t ≡ start_job t zeros Open
+  pub fresh_unate : binate_place (function_of t) ≡ None → (r : ℕ) → r < 2 ^ t.n → cared t r ≡ true → fresh t ≡ start_job t zeros Open
   pub fresh_free : ((r : ℕ) → r < 2 ^ t.n → cared t r ≡ false) → fresh t ≡ start_job t zeros Found
-  pub fresh_binate : (place : ℕ) → binate_place (function_of t) ≡ some place → fresh t ≡ start_job t (binate_counts (function_of t) place) Binate
+  pub fresh_binate : (place : ℕ) → binate_place (function_of t) ≡ Some place → fresh t ≡ start_job t (binate_counts (function_of t) place) Binate
   -- the counts of a binate table: 1 at the lowest row without the input where it rises, at the lowest where it falls, and at their partners
   -- with it, and 0 at every other row: the four rows differ
-  pub binate_rows : t.n ≤ input_limit → (place rise fall : ℕ) → binate_place (function_of t) ≡ some place
-      → first_turn (function_of t) true place ≡ some rise → first_turn (function_of t) false place ≡ some fall → (r : ℕ)
+  pub binate_rows : t.n ≤ input_limit → (place rise fall : ℕ) → binate_place (function_of t) ≡ Some place
+      → first_turn (function_of t) true place ≡ Some rise → first_turn (function_of t) false place ≡ Some fall → (r : ℕ)
       → count_of (binate_counts (function_of t) place) r
       ≡ only_if (eqb r rise || eqb r (rise + 2 ^ place) || eqb r fall || eqb r (fall + 2 ^ place)) 1
   -- row r fails: it is cared for, and d is below 1 on a true row, above −1 on a false row
@@ -102,7 +102,7 @@ pub record WholeTablesAsWritten (t : Table) : Type 0 where
   pub turns : (to : Bool) (place r : ℕ) → r < 2 ^ t.n → r + 2 ^ place < 2 ^ t.n
       → turns_at (function_of t) to place r ≡ (eqb (level 2 r place) 0 && same_bool (value t r) (not to) && same_bool (value t (r + 2 ^ place)) to)
   -- the fresh job of one without a binate input is open
-  pub fresh_unate : binate_place (function_of t) ≡ none → fresh t ≡ start_job t zeros Open
+  pub fresh_unate : binate_place (function_of t) ≡ None → fresh t ≡ start_job t zeros Open
   -- row r fails: d below 1 on a true row, above −1 on a false row
   pub fails_as : (v : Vector) (r : ℕ) → r < 2 ^ t.n
       → fails (function_of t) v r ≡ (let d = distance v.a v.b (level 2 r) in cond (value t r) (lt_z d (pos 1)) (lt_z (negsuc 0) d))

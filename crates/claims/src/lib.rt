@@ -3,7 +3,6 @@
 #![tactic(auto)]
 
 ghost use Rattle.theory.specs.Cases.{MarkedCases};
-ghost use Rattle.records.specs.Record.{of_table, of_gate, of_witness, of_job};
 ghost use Rattle.claims.specs.Lists.{CallsAreTheMachine};
 ghost use Rattle.claims.specs.Report.{ReportIsItsLines, MeanIsRounded, HeightsByThePage};
 ghost use Rattle.claims.specs.Decided.{DecidedIsRight};
@@ -17,6 +16,7 @@ ghost use Rattle.std.specs.Prelude.{◌≡◌, true};
 ghost use Rattle.claims.specs.Claims.{NumbersOnTheirConditions, CheckerIsExact, WitnessExcludes, CheckedWitnessExcludes};
 
 use job::job::Job;
+use records::record::Record;
 use types::gate::Gate;
 use types::table::Table;
 use types::witness::Witness;
@@ -93,7 +93,7 @@ pub fn records_are_written()
 
 // Demand 2: reading what was written gives the same value, whatever value of the code's types is handed in.
 pub fn what_is_written_is_read(table: Table, gate: Gate, witness: Witness, job: Job)
-    ensures { ReadsBack (of_table table) × ReadsBack (of_gate table gate) × ReadsBack (of_witness table witness) × ReadsBack (of_job job) }
+    ensures { ReadsBack (Record.Table table) × ReadsBack (Record.Gate table gate) × ReadsBack (Record.Witness table witness) × ReadsBack (Record.Job job) }
 {}
 
 // Demand 2: writing what was read gives the same bytes.

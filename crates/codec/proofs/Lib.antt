@@ -26,5 +26,3 @@ pub mod RisingPairs
 pub mod RowListParts
 -- a row list that is read is written
 pub mod RowListWritten
--- what the struct of a field that was read says of the field
-pub mod Shows

@@ -1,5 +1,7 @@
 -- Writing and reading a number are inverse: the bytes of a number below 2^21 are read as it, and bytes that are read as a number are its
 -- own. So are a signed number and its code. Assumes nothing.
+use Rattle.types.specs.declared.refusal.Refusal.TheVariants as Refusal'
+use Rattle.std.specs.Prelude.{Ok}
 use mathlib.Core.Path.{◌≡◌, refl, ap}
 use mathlib.Core.Bool.{Bool, true, false, cond, ◌&&◌}
 use mathlib.Core.List.{List, [], ◌∷◌}
@@ -10,7 +12,6 @@ use lib.ListN.{length, get_or}
 use lib.IntN.{ℤ, pos, negsuc}
 use borrow.Author.Tests.{ltb-true, ltb-false, eqb-true, eqb-false, lt-ltb, le-ltb, eq-eqb, ne_eqb}
 use Rattle.table.specs.Gate.{weight_limit, within}
-use Rattle.refusal.specs.Refusal.{answered}
 use Rattle.function.proofs.RangeLaws.{within_correct}
 use Rattle.codec.specs.Field.{Field, Reading, field, onward}
 use Rattle.codec.specs.Number.{group_bytes, number_bytes, last_group, groups_at, number_at, signed_code, signed_of}
@@ -72,7 +73,7 @@ Fits true x = 0 < x
 Fits false x = Unit {0}
 
 module _ (s : List ℕ) where
-  last_read : (groups : ℕ) (later : Bool) (at x : ℕ) → x < 128 → Fits later x → Stands s at (x ∷ []) → groups_at (suc groups) later s at ≡ answered (field x (at + 1))
+  last_read : (groups : ℕ) (later : Bool) (at x : ℕ) → x < 128 → Fits later x → Stands s at (x ∷ []) → groups_at (suc groups) later s at ≡ Ok (field x (at + 1))
   unfolding groups_at
   last_read groups later at x h p t =
       let head = stands_head s at x [] t in
@@ -83,17 +84,17 @@ module _ (s : List ℕ) where
       kept false p = refl
 
   more_read : (groups : ℕ) (later : Bool) (at x next : ℕ) → 128 ≤ x → at < length s → get_or s at 0 ≡ 128 + x % 128
-      → groups_at groups true s (at + 1) ≡ answered (field (x / 128) next) → groups_at (suc groups) later s at ≡ answered (field x next)
+      → groups_at groups true s (at + 1) ≡ Ok (field (x / 128) next) → groups_at (suc groups) later s at ≡ Ok (field x next)
   unfolding groups_at
   more_read groups later at x next h l e ih =
-      rw (e, le-ltb (length s) (at + 1) (omega arith), le-ltb (128 + x % 128) 128 (omega arith), ih) (ap (λ (y : ℕ). answered (field y next)) (omega arith))
+      rw (e, le-ltb (length s) (at + 1) (omega arith), le-ltb (128 + x % 128) 128 (omega arith), ih) (ap (λ (y : ℕ). Ok (field y next)) (omega arith))
 
   group_read : (groups : ℕ) (later : Bool) (at x : ℕ) → Fits later x → Stands s at (group_bytes (suc groups) x)
-      → (128 ≤ x → Stands s (at + 1) (group_bytes groups (x / 128)) → groups_at groups true s (at + 1) ≡ answered (field (x / 128) (at + 1 + length (group_bytes groups (x / 128)))))
-      → groups_at (suc groups) later s at ≡ answered (field x (at + length (group_bytes (suc groups) x)))
+      → (128 ≤ x → Stands s (at + 1) (group_bytes groups (x / 128)) → groups_at groups true s (at + 1) ≡ Ok (field (x / 128) (at + 1 + length (group_bytes groups (x / 128)))))
+      → groups_at (suc groups) later s at ≡ Ok (field x (at + length (group_bytes (suc groups) x)))
   group_read groups later at x p t ih = by (ltb x 128) refl
     where
-      by : (v : Bool) → ltb x 128 ≡ v → groups_at (suc groups) later s at ≡ answered (field x (at + length (group_bytes (suc groups) x)))
+      by : (v : Bool) → ltb x 128 ≡ v → groups_at (suc groups) later s at ≡ Ok (field x (at + length (group_bytes (suc groups) x)))
       by true e =
           let bytes = group_last groups x (ltb-true x 128 e) in
           rw bytes (last_read groups later at x (ltb-true x 128 e) p (rw bytes at t))
@@ -107,12 +108,12 @@ module _ (s : List ℕ) where
           rw (bytes, ← end) (more_read groups later at x (at + 1 + length higher) (ltb-false x 128 e) first.0 first.1 later-on)
 
   groups_read : (groups : ℕ) (later : Bool) (at x : ℕ) → x < 128 ^ suc groups → Fits later x → Stands s at (group_bytes (suc groups) x)
-      → groups_at (suc groups) later s at ≡ answered (field x (at + length (group_bytes (suc groups) x)))
+      → groups_at (suc groups) later s at ≡ Ok (field x (at + length (group_bytes (suc groups) x)))
   groups_read zero later at x h p t = group_read 0 later at x p t (λ k. absurd (omega arith))
   groups_read (suc groups) later at x h p t = group_read (suc groups) later at x p t (λ k. groups_read groups true (at + 1) (x / 128) (omega arith) (omega arith))
 
 -- the bytes of a number are read as it
-pub number_read : (s : List ℕ) (at x : ℕ) → x < 2097152 → Stands s at (number_bytes x) → number_at s at ≡ answered (field x (at + length (number_bytes x)))
+pub number_read : (s : List ℕ) (at x : ℕ) → x < 2097152 → Stands s at (number_bytes x) → number_at s at ≡ Ok (field x (at + length (number_bytes x)))
 unfolding number_at number_bytes
 number_read s at x h t = groups_read s 2 false at x h tt t
 
@@ -121,26 +122,26 @@ number_read s at x h t = groups_read s 2 false at x h tt t
 -- what reading a group gave: the last one, or one before others
 data Group (groups : ℕ) (later : Bool) (s : List ℕ) (at : ℕ) (f : Field ℕ) : Type 0 where
   last : get_or s at 0 < 128 → (later && eqb (get_or s at 0) 0) ≡ false → field (get_or s at 0) (at + 1) ≡ f → Group groups later s at f
-  more : 128 ≤ get_or s at 0 → (h : Field ℕ) → groups_at groups true s (at + 1) ≡ answered h → field (get_or s at 0 - 128 + 128 * h.value) h.next ≡ f
+  more : 128 ≤ get_or s at 0 → (h : Field ℕ) → groups_at groups true s (at + 1) ≡ Ok h → field (get_or s at 0 - 128 + 128 * h.value) h.next ≡ f
       → Group groups later s at f
 
-group_of : (groups : ℕ) (later : Bool) (s : List ℕ) (at : ℕ) (f : Field ℕ) → groups_at (suc groups) later s at ≡ answered f → (at < length s) × Group groups later s at f
+group_of : (groups : ℕ) (later : Bool) (s : List ℕ) (at : ℕ) (f : Field ℕ) → groups_at (suc groups) later s at ≡ Ok f → (at < length s) × Group groups later s at f
 unfolding groups_at
 group_of groups later s at f e =
-    let read = checked_onward 1 (ltb (length s) (at + 1)) (cond (ltb b 128) (last_group later b at) rest) f e in
+    let read = checked_onward Refusal'.EndsEarly (ltb (length s) (at + 1)) (cond (ltb b 128) (last_group later b at) rest) f e in
     (omega (arith, ltb-false (length s) (at + 1) read.0), by (ltb b 128) refl read.1)
   where
     b : ℕ
     b = get_or s at 0
 
     joined : ℕ → ℕ → Reading ℕ
-    joined higher next = answered (field (b - 128 + 128 * higher) next)
+    joined higher next = Ok (field (b - 128 + 128 * higher) next)
 
     rest : Reading ℕ
     rest = onward (groups_at groups true s (at + 1)) joined
 
-    by : (t : Bool) → ltb b 128 ≡ t → cond t (last_group later b at) rest ≡ answered f → Group groups later s at f
-    by true c d = let kept = checked_answered 4 (later && eqb b 0) (field b (at + 1)) f d in last (ltb-true b 128 c) kept.0 kept.1
+    by : (t : Bool) → ltb b 128 ≡ t → cond t (last_group later b at) rest ≡ Ok f → Group groups later s at f
+    by true c d = let kept = checked_answered Refusal'.Number (later && eqb b 0) (field b (at + 1)) f d in last (ltb-true b 128 c) kept.0 kept.1
     by false c d = let (h, first, same) = onward_answered (groups_at groups true s (at + 1)) joined f d in more (ltb-false b 128 c) h first (cc)
 
 -- what reading so many groups gave: the number's own bytes stand there
@@ -183,22 +184,22 @@ module _ (s : List ℕ) where
       fits true p = p
       fits false p = tt
 
-  groups_written : (groups : ℕ) (later : Bool) (at : ℕ) (f : Field ℕ) → AllBytes s → groups_at groups later s at ≡ answered f → GroupsRead groups later s at f
+  groups_written : (groups : ℕ) (later : Bool) (at : ℕ) (f : Field ℕ) → AllBytes s → groups_at groups later s at ≡ Ok f → GroupsRead groups later s at f
   unfolding groups_at
-  groups_written zero later at f a e = let z : ◌≡◌ {A = ℕ} 0 1 = cc in absurd (omega arith)
+  groups_written zero later at f a e = cc
   groups_written (suc groups) later at f a e = let (l, g) = group_of groups later s at f e in by l (λ h. groups_written groups true (at + 1) h a) g
     where
-      by : at < length s → ((h : Field ℕ) → groups_at groups true s (at + 1) ≡ answered h → GroupsRead groups true s (at + 1) h) → Group groups later s at f
+      by : at < length s → ((h : Field ℕ) → groups_at groups true s (at + 1) ≡ Ok h → GroupsRead groups true s (at + 1) h) → Group groups later s at f
           → GroupsRead (suc groups) later s at f
       by l ih (last h k same) = rw (← same) (last_written groups later at (get_or s at 0) (stands_byte s at l) h k)
       by l ih (more k h rest same) = rw (← same) (more_written groups later at (get_or s at 0) h (stands_byte s at l) k (a at l) (ih h rest))
 
-  groups_next : (groups : ℕ) (later : Bool) (at : ℕ) (f : Field ℕ) → groups_at groups later s at ≡ answered f → (at < f.next) × (f.next ≤ length s)
+  groups_next : (groups : ℕ) (later : Bool) (at : ℕ) (f : Field ℕ) → groups_at groups later s at ≡ Ok f → (at < f.next) × (f.next ≤ length s)
   unfolding groups_at
-  groups_next zero later at f e = let z : ◌≡◌ {A = ℕ} 0 1 = cc in absurd (omega arith)
+  groups_next zero later at f e = cc
   groups_next (suc groups) later at f e = let (l, g) = group_of groups later s at f e in by l (groups_next groups true (at + 1)) g
     where
-      by : at < length s → ((h : Field ℕ) → groups_at groups true s (at + 1) ≡ answered h → (at + 1 < h.next) × (h.next ≤ length s)) → Group groups later s at f
+      by : at < length s → ((h : Field ℕ) → groups_at groups true s (at + 1) ≡ Ok h → (at + 1 < h.next) × (h.next ≤ length s)) → Group groups later s at f
           → (at < f.next) × (f.next ≤ length s)
       by l ih (last h k same) = omega (arith, ap (λ (f : Field ℕ). f.next) same)
       by l ih (more k h rest same) = omega (arith, ap (λ (f : Field ℕ). f.next) same, ih h rest)
@@ -210,12 +211,12 @@ pub record NumberRead (s : List ℕ) (at : ℕ) (f : Field ℕ) : Type 0 where
   pub small : f.value < 2097152
 
 -- where a number is read, its bytes stand
-pub number_written : (s : List ℕ) (at : ℕ) (f : Field ℕ) → AllBytes s → number_at s at ≡ answered f → NumberRead s at f
+pub number_written : (s : List ℕ) (at : ℕ) (f : Field ℕ) → AllBytes s → number_at s at ≡ Ok f → NumberRead s at f
 unfolding number_at number_bytes
 number_written s at f a e = let r = groups_written s 3 false at f a e in record { stands = r.stands; next = r.next; small = r.small }
 
 -- a number that is read takes at least one byte, and all of them stand within
-pub number_next : (s : List ℕ) (at : ℕ) (f : Field ℕ) → number_at s at ≡ answered f → (at < f.next) × (f.next ≤ length s)
+pub number_next : (s : List ℕ) (at : ℕ) (f : Field ℕ) → number_at s at ≡ Ok f → (at < f.next) × (f.next ≤ length s)
 unfolding number_at
 number_next s at f e = groups_next s 3 false at f e
 

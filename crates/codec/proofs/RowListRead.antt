@@ -1,5 +1,6 @@
 -- A row list that was written is read back: at each row, the counts so far are those of the rows below it, and 0 from it on, and the
 -- pairs of the other rows stand where reading goes on. Assumes nothing.
+use Rattle.std.specs.Prelude.{Ok}
 use mathlib.Core.Path.{◌≡◌, refl, sym, ◌∙◌}
 use mathlib.Core.Bool.{Bool, true, false, not, ◌&&◌, ◌||◌}
 use mathlib.Core.List.{List, ◌++◌}
@@ -15,7 +16,6 @@ use Rattle.numbers.specs.Tests.{all_at_most}
 use Rattle.numbers.proofs.TestLaws.{and_both}
 use Rattle.table.specs.Witness.{count_limit}
 use Rattle.function.specs.Witness.{count_of, zeros}
-use Rattle.refusal.specs.Refusal.{answered}
 use Rattle.function.proofs.CountLaws.{get_d_zeros}
 use Rattle.codec.specs.Field.{field}
 use Rattle.codec.specs.Number.{number_bytes}
@@ -36,7 +36,7 @@ pair_of row count = record { row = row; count = count; fits = true }
 -- a pair in its ranges is read where it stands
 pair_read : (strict : Bool) (rows lowest row count : ℕ) (s : List ℕ) (at : ℕ) → rows ≤ 256 → lowest ≤ row → row < rows → 0 < count
     → count ≤ count_limit → Stands s at (number_bytes row ++ number_bytes count)
-    → pair_at strict rows lowest s at ≡ answered (field (pair_of row count) (at + length (number_bytes row ++ number_bytes count)))
+    → pair_at strict rows lowest s at ≡ Ok (field (pair_of row count) (at + length (number_bytes row ++ number_bytes count)))
 unfolding pair_at
 pair_read strict rows lowest row count s at h low inside above most t =
     let row_held : row_fits rows lowest row ≡ true = and_both (le-leb lowest row low) (lt-ltb row rows inside) in
@@ -55,13 +55,13 @@ pair_read strict rows lowest row count s at h low inside above most t =
 
 -- no pairs left
 pairs_none : (strict : Bool) (rows lowest : ℕ) (list : RowList) (s : List ℕ) (at : ℕ)
-    → pairs_at strict rows 0 lowest list s at ≡ answered (field list at)
+    → pairs_at strict rows 0 lowest list s at ≡ Ok (field list at)
 unfolding pairs_at
 pairs_none strict rows lowest list s at = refl
 
 -- a pair in its ranges, and then the others
 pairs_step : (strict : Bool) (rows left lowest row count : ℕ) (c s : List ℕ) (at next : ℕ)
-    → pair_at strict rows lowest s at ≡ answered (field (pair_of row count) next)
+    → pair_at strict rows lowest s at ≡ Ok (field (pair_of row count) next)
     → pairs_at strict rows (suc left) lowest (record { counts = c; kept = true }) s at
     ≡ pairs_at strict rows left (suc row) (record { counts = set c row count; kept = true }) s next
 unfolding pairs_at
@@ -106,7 +106,7 @@ module _ (strict : Bool) (rows : ℕ) (counts s : List ℕ) (most : rows ≤ 256
   pairs_read : (left row lowest : ℕ) (c : List ℕ) (at : ℕ) → row + left ≡ 256 → lowest ≤ row → SoFar counts row c
       → Stands s at (pairs_from counts left row)
       → pairs_at strict rows (filled_from counts left row) lowest (record { counts = c; kept = true }) s at
-      ≡ answered (field (record { counts = counts; kept = true }) (at + length (pairs_from counts left row)))
+      ≡ Ok (field (record { counts = counts; kept = true }) (at + length (pairs_from counts left row)))
   pairs_read zero row lowest c at total low so t =
       let same : c ≡ counts = ext_get_or 0 c counts (so.size ∙ sym l.long) (λ i h. so.below i (omega (arith, so.size))) in
       rw (filled_zero, pairs_none, pairs_zero, same, add-zero)
@@ -150,7 +150,7 @@ length_fits_lem strict rows counts most l some = and_both (le-leb (filled_from c
 pub rows_read : (strict : Bool) (rows : ℕ) (counts : List ℕ) (s : List ℕ) (at : ℕ) → rows ≤ 256 → length counts ≡ 256
     → all_at_most count_limit counts ≡ true → all_at_most 0 (drop rows counts) ≡ true → (strict ≡ true → all_at_most 0 counts ≡ false)
     → Stands s at (row_list_bytes counts)
-    → row_list_at strict rows s at ≡ answered (field (record { counts = counts; kept = true }) (at + length (row_list_bytes counts)))
+    → row_list_at strict rows s at ≡ Ok (field (record { counts = counts; kept = true }) (at + length (row_list_bytes counts)))
 rows_read strict rows counts s at most long limit past some t =
     let l = listed rows counts long limit past in
     let pairs = filled_from counts 256 0 in

@@ -1,6 +1,7 @@
 -- A row list that was read is written back: once a pair is out of range the list has not kept its ranges, so of one that has, each pair
 -- stood above those before it, and the bytes are those of its counts. Where ranges are refused at once, every list that is read has
 -- kept them. Assumes nothing.
+use Rattle.std.specs.Prelude.{Ok}
 use mathlib.Core.Path.{◌≡◌, refl, sym, ◌∙◌}
 use mathlib.Core.Bool.{Bool, true, false}
 use mathlib.Core.List.{List}
@@ -12,7 +13,6 @@ use borrow.Author.Tests.{ltb-true, leb-true}
 use Rattle.numbers.specs.Tests.{all_at_most}
 use Rattle.numbers.proofs.TestLaws.{no_true, and_left, and_right}
 use Rattle.table.specs.Witness.{count_limit}
-use Rattle.refusal.specs.Refusal.{answered}
 use Rattle.function.specs.Witness.{zeros}
 use Rattle.function.proofs.CountLaws.{get_d_zeros}
 use Rattle.codec.specs.Field.{Field, field}
@@ -33,7 +33,7 @@ stored_fits false row count list e = absurd (no_true e)
 
 module _ (strict : Bool) (rows : ℕ) (s : List ℕ) (f : Field RowList) where
   -- a list that has kept its ranges had kept them before
-  kept_before : (left lowest : ℕ) (list : RowList) (at : ℕ) → pairs_at strict rows left lowest list s at ≡ answered f → f.value.kept ≡ true
+  kept_before : (left lowest : ℕ) (list : RowList) (at : ℕ) → pairs_at strict rows left lowest list s at ≡ Ok f → f.value.kept ≡ true
       → list.kept ≡ true
   kept_before zero lowest list at e k = rw (← pairs_end strict rows lowest list s at f e) at k
   kept_before (suc left) lowest list at e k =
@@ -41,7 +41,7 @@ module _ (strict : Bool) (rows : ℕ) (s : List ℕ) (f : Field RowList) where
       (stored_fits g.value.fits g.value.row g.value.count list (kept_before left _ _ g.next rest k)).1
 
   -- a strict list that had kept its ranges keeps them
-  kept_after : (left lowest : ℕ) (list : RowList) (at : ℕ) → strict ≡ true → pairs_at strict rows left lowest list s at ≡ answered f
+  kept_after : (left lowest : ℕ) (list : RowList) (at : ℕ) → strict ≡ true → pairs_at strict rows left lowest list s at ≡ Ok f
       → list.kept ≡ true → f.value.kept ≡ true
   kept_after zero lowest list at h e k = rw (← pairs_end strict rows lowest list s at f e) k
   kept_after (suc left) lowest list at h e k =
@@ -49,7 +49,7 @@ module _ (strict : Bool) (rows : ℕ) (s : List ℕ) (f : Field RowList) where
       kept_after left _ _ g.next h rest (rw ((pair_parts strict rows lowest s at g read).obeys h) k)
 
 -- a strict row list that is read has kept its ranges
-pub strict_kept : (rows : ℕ) (s : List ℕ) (at : ℕ) (f : Field RowList) → row_list_at true rows s at ≡ answered f → f.value.kept ≡ true
+pub strict_kept : (rows : ℕ) (s : List ℕ) (at : ℕ) (f : Field RowList) → row_list_at true rows s at ≡ Ok f → f.value.kept ≡ true
 strict_kept rows s at f e =
     let parts = rows_parts true rows s at f e in
     kept_after true rows s f parts.pairs.value 0 _ parts.pairs.next refl parts.rest (parts.obeys refl)
@@ -57,11 +57,11 @@ strict_kept rows s at f e =
 -- ---- the bytes of what was read
 
 -- a number that was read stands where it was
-number_spans : (s : List ℕ) (at x next : ℕ) → AllBytes s → number_at s at ≡ answered (field x next) → Spans s at (number_bytes x) next
+number_spans : (s : List ℕ) (at x next : ℕ) → AllBytes s → number_at s at ≡ Ok (field x next) → Spans s at (number_bytes x) next
 number_spans s at x next b e = let read = number_written s at (field x next) b e in (read.stands, read.next)
 
 -- a pair that was read and fits
-pair_written : (strict : Bool) (rows lowest : ℕ) (s : List ℕ) (at : ℕ) (g : Field Pair) → AllBytes s → pair_at strict rows lowest s at ≡ answered g
+pair_written : (strict : Bool) (rows lowest : ℕ) (s : List ℕ) (at : ℕ) (g : Field Pair) → AllBytes s → pair_at strict rows lowest s at ≡ Ok g
     → g.value.fits ≡ true → PairRead rows lowest s at g.value.row g.value.count g.next
 pair_written strict rows lowest s at g b e fits =
     let parts = pair_parts strict rows lowest s at g e in
@@ -82,7 +82,7 @@ pair_written strict rows lowest s at g b e fits =
 module _ (strict : Bool) (rows : ℕ) (s : List ℕ) (f : Field RowList) (most : rows ≤ 256) (bytes : AllBytes s) (kept : f.value.kept ≡ true) where
   -- so many pairs that were read, each of which fitted
   pairs_written : (left lowest m : ℕ) (list : RowList) (at : ℕ) → lowest + m ≡ 256 → Before rows lowest list.counts
-      → pairs_at strict rows left lowest list s at ≡ answered f → PairsRead rows lowest m list.counts left s at f.value.counts f.next
+      → pairs_at strict rows left lowest list s at ≡ Ok f → PairsRead rows lowest m list.counts left s at f.value.counts f.next
   pairs_written zero lowest m list at total b e =
       rw (← pairs_end strict rows lowest list s at f e) (no_pairs rows lowest m list.counts s at b)
   pairs_written (suc left) lowest m list at total b e =
@@ -111,7 +111,7 @@ pub record RowsRead (strict : Bool) (rows : ℕ) (s : List ℕ) (at : ℕ) (f : 
 
 -- a row list that was read and has kept its ranges is written back
 pub rows_written : (strict : Bool) (rows : ℕ) (s : List ℕ) (at : ℕ) (f : Field RowList) → rows ≤ 256 → AllBytes s
-    → row_list_at strict rows s at ≡ answered f → f.value.kept ≡ true → RowsRead strict rows s at f
+    → row_list_at strict rows s at ≡ Ok f → f.value.kept ≡ true → RowsRead strict rows s at f
 rows_written strict rows s at f most bytes e kept =
     let parts = rows_parts strict rows s at f e in
     let pairs = parts.pairs.value in

@@ -1,5 +1,7 @@
 -- Writing and reading a table are inverse: the bytes of a table that keeps its format are read as it, and bytes that are read as a table
 -- are its own. Assumes nothing.
+use Rattle.std.specs.Prelude.{Ok}
+use Rattle.types.specs.declared.refusal.Refusal.TheVariants as Refusal'
 use mathlib.Core.Path.{◌≡◌, refl, sym, ap, ap₂, subst, ◌∙◌}
 use mathlib.Core.Bool.{Bool, true, false, not, cond}
 use mathlib.Core.List.{List, [], ◌∷◌, ◌++◌}
@@ -17,7 +19,7 @@ use Rattle.table.specs.Table.{input_limit, rows_of, byte_count, padded, spare_se
 use Rattle.table.proofs.TableLaws.{bytes_le}
 use Rattle.table.proofs.RowLaws.{ByteArray, rows_clear}
 use Rattle.table.proofs.CareLaws.{every_array, whole_cares, cares_whole}
-use Rattle.refusal.specs.Refusal.{rule, answered, checked, NoneBroken, none, also}
+use Rattle.refusal.specs.Refusal.{rule, checked, NoneBroken, none, also}
 use Rattle.refusal.specs.TableRules.{too_many_inputs, table_rules}
 use Rattle.refusal.proofs.TableChecked.{kept_inputs, kept_values, kept_cares, kept_stray, whole_stray}
 use Rattle.codec.specs.Field.{Field, Reading, field, onward}
@@ -31,7 +33,7 @@ use Rattle.codec.proofs.KindLaws.{kind_written}
 
 -- ---- what is written is read
 
-inputs_read : (n : ℕ) (s : List ℕ) (at : ℕ) → n ≤ 8 → Stands s at (number_bytes n) → inputs_at s at ≡ answered (field n (at + length (number_bytes n)))
+inputs_read : (n : ℕ) (s : List ℕ) (at : ℕ) → n ≤ 8 → Stands s at (number_bytes n) → inputs_at s at ≡ Ok (field n (at + length (number_bytes n)))
 inputs_read n s at h t = rw (number_read s at n (omega arith) t, le-ltb input_limit n h)
 
 -- the bytes of a table past its own are 0
@@ -71,7 +73,7 @@ module _ (n : ℕ) (bits : List ℕ) (few : n ≤ 8) (clear : spare_set n bits �
       same = ext_get_or 0 zeros past same_length (λ i h. omega (arith, spare_past n bits clear i, zero_at i h))
 
   -- they are read as they are
-  row_bits_read : (s : List ℕ) (at : ℕ) → at ≤ length s → Stands s at (own n bits) → row_bits_at n s at ≡ answered (field bits (at + byte_count n))
+  row_bits_read : (s : List ℕ) (at : ℕ) → at ≤ length s → Stands s at (own n bits) → row_bits_at n s at ≡ Ok (field bits (at + byte_count n))
   unfolding row_bits_at
   row_bits_read s at h (rest, e) =
       let found : take (byte_count n) (drop at s) ≡ own n bits = ap (take (byte_count n)) e ∙ take_at (own n bits) rest (byte_count n) own_length in
@@ -87,16 +89,16 @@ pub record Held (t : Table) : Type 0 where
 
 -- where care bytes are read by whether a row is not cared for, those of a table are read as it
 cares_read : (t : Table) (s : List ℕ) (at : ℕ) → NoneBroken (table_rules t []) → Held t → at ≤ length s → Stands s at (care_bytes t)
-    → cares_at (not (is_whole t)) t.n t.bytes s at ≡ answered (field t (at + length (care_bytes t)))
+    → cares_at (not (is_whole t)) t.n t.bytes s at ≡ Ok (field t (at + length (care_bytes t)))
 unfolding cares_at
 cares_read t s at kept held h = by (is_whole t) refl
   where
     by : (whole : Bool) → is_whole t ≡ whole → Stands s at (cond whole [] (own t.n t.cares))
-        → cares_at (not whole) t.n t.bytes s at ≡ answered (field t (at + length {A = ℕ} (cond whole [] (own t.n t.cares))))
+        → cares_at (not whole) t.n t.bytes s at ≡ Ok (field t (at + length {A = ℕ} (cond whole [] (own t.n t.cares))))
     by true e stands =
         let every = whole_cares t (kept_inputs t kept) held.cares (kept_cares t kept) e in
         let end : at ≡ at + 0 = omega arith in
-        ap₂ (λ (cares : List ℕ) (next : ℕ). answered (field (table_of t.n t.bytes cares) next)) (sym every) end
+        ap₂ (λ (cares : List ℕ) (next : ℕ). Ok (field (table_of t.n t.bytes cares) next)) (sym every) end
     by false e stands =
         let n = t.n in
         let long = own_length n t.cares (kept_inputs t kept) (kept_cares t kept) held.cares.size in
@@ -104,7 +106,7 @@ cares_read t s at kept held h = by (is_whole t) refl
 
 -- the bytes of a table are read as it, where care bytes are read by whether a row is not cared for
 pub table_read_lem : (t : Table) (s : List ℕ) (at : ℕ) → NoneBroken (table_rules t []) → Held t → at ≤ length s → Stands s at (table_bytes t)
-    → table_at (not (is_whole t)) s at ≡ answered (field t (at + length (table_bytes t)))
+    → table_at (not (is_whole t)) s at ≡ Ok (field t (at + length (table_bytes t)))
 unfolding table_at table_bytes
 table_read_lem t s at kept held h stands =
     let n = t.n in
@@ -123,18 +125,18 @@ table_read_lem t s at kept held h stands =
     let end : at + length number + byte_count n + length (care_bytes t) ≡ at + length (number ++ (values ++ care_bytes t)) =
     omega (arith, length-append number (values ++ care_bytes t), length-append values (care_bytes t), long) in
     rw (inputs_read n s at few front, row_bits_read n t.bytes few (kept_values t kept) held.long s (at + length number) inside own-front)
-    (cares ∙ ap (λ (p : ℕ). answered (field t p)) end)
+    (cares ∙ ap (λ (p : ℕ). Ok (field t p)) end)
 
 -- ---- what is read is written
 
-inputs_written : (s : List ℕ) (at : ℕ) (f : Field ℕ) → inputs_at s at ≡ answered f → (number_at s at ≡ answered f) × (ltb input_limit f.value ≡ false)
+inputs_written : (s : List ℕ) (at : ℕ) (f : Field ℕ) → inputs_at s at ≡ Ok f → (number_at s at ≡ Ok f) × (ltb input_limit f.value ≡ false)
 inputs_written s at f e = by (onward_answered (number_at s at) taken f e)
   where
     taken : ℕ → ℕ → Reading ℕ
-    taken n next = checked (too_many_inputs n ∷ []) (answered (field n next))
+    taken n next = checked (too_many_inputs n ∷ []) (Ok (field n next))
 
-    by : (n : Field ℕ) × (number_at s at ≡ answered n) × (taken n.value n.next ≡ answered f) → (number_at s at ≡ answered f) × (ltb input_limit f.value ≡ false)
-    by (n, first, rest) = let (few, same) = checked_answered 2 (ltb input_limit n.value) n f rest in rw (← same) (first, few)
+    by : (n : Field ℕ) × (number_at s at ≡ Ok n) × (taken n.value n.next ≡ Ok f) → (number_at s at ≡ Ok f) × (ltb input_limit f.value ≡ false)
+    by (n, first, rest) = let (few, same) = checked_answered Refusal'.Inputs (ltb input_limit n.value) n f rest in rw (← same) (first, few)
 
 -- what reading the bits of rows gave: they stand there, 0 follows them in their array, and no spare bit is set
 record BitsRead (n : ℕ) (s : List ℕ) (at : ℕ) (bits : List ℕ) (next : ℕ) : Type 0 where
@@ -143,14 +145,14 @@ record BitsRead (n : ℕ) (s : List ℕ) (at : ℕ) (bits : List ℕ) (next : �
   held : bits ≡ padded 32 0 (take (byte_count n) (drop at s))
   end : next ≡ at + byte_count n
 
-bits_written : (n : ℕ) (s : List ℕ) (at : ℕ) (f : Field (List ℕ)) → row_bits_at n s at ≡ answered f → BitsRead n s at f.value f.next
+bits_written : (n : ℕ) (s : List ℕ) (at : ℕ) (f : Field (List ℕ)) → row_bits_at n s at ≡ Ok f → BitsRead n s at f.value f.next
 unfolding row_bits_at
 bits_written n s at f e =
     let m = byte_count n in
     let bits = field (padded 32 0 (take m (drop at s))) (at + m) in
     let (g, read, after) = onward_answered (bits_at (rows_of n) s at) tested f e in
-    let (early, same) = checked_answered 1 (ltb (length s) (at + m)) bits g read in
-    let (clear, last) = checked_answered 3 (spare_set n g.value) g f after in
+    let (early, same) = checked_answered Refusal'.EndsEarly (ltb (length s) (at + m)) bits g read in
+    let (clear, last) = checked_answered Refusal'.SpareBit (spare_set n g.value) g f after in
     rw (← last)
     (record {
       inside = ltb-false (length s) (at + m) early;
@@ -160,13 +162,13 @@ bits_written n s at f e =
     })
   where
     tested : List ℕ → ℕ → Reading (List ℕ)
-    tested bits next = checked (rule 3 (spare_set n bits) ∷ []) (answered (field bits next))
+    tested bits next = checked (rule Refusal'.SpareBit (spare_set n bits) ∷ []) (Ok (field bits next))
 
 -- bits that are read have no spare one, and end within
-pub row_bits_clear : (n : ℕ) (s : List ℕ) (at : ℕ) (f : Field (List ℕ)) → row_bits_at n s at ≡ answered f → spare_set n f.value ≡ false
+pub row_bits_clear : (n : ℕ) (s : List ℕ) (at : ℕ) (f : Field (List ℕ)) → row_bits_at n s at ≡ Ok f → spare_set n f.value ≡ false
 row_bits_clear n s at f e = (bits_written n s at f e).clear
 
-pub row_bits_within : (n : ℕ) (s : List ℕ) (at : ℕ) (f : Field (List ℕ)) → row_bits_at n s at ≡ answered f → f.next ≤ length s
+pub row_bits_within : (n : ℕ) (s : List ℕ) (at : ℕ) (f : Field (List ℕ)) → row_bits_at n s at ≡ Ok f → f.next ≤ length s
 row_bits_within n s at f e = let r = bits_written n s at f e in omega (arith, r.end, r.inside)
 
 module _ (n : ℕ) (s : List ℕ) (at : ℕ) (bits : List ℕ) (next : ℕ) (few : n ≤ 8) (r : BitsRead n s at bits next) where
@@ -215,28 +217,28 @@ CaresParts true s at t next = BitsRead t.n s at t.cares next × (stray_value t �
 record TableParts (cares : Bool) (s : List ℕ) (at : ℕ) (t : Table) (next : ℕ) : Type 0 where
   middle : ℕ
   after : ℕ
-  inputs : number_at s at ≡ answered (field t.n middle)
+  inputs : number_at s at ≡ Ok (field t.n middle)
   few : ltb input_limit t.n ≡ false
   values : BitsRead t.n s middle t.bytes after
   cared : CaresParts cares s after t next
 
-cares_parts : (cares : Bool) (n : ℕ) (bits : List ℕ) (s : List ℕ) (at : ℕ) (f : Field Table) → cares_at cares n bits s at ≡ answered f
+cares_parts : (cares : Bool) (n : ℕ) (bits : List ℕ) (s : List ℕ) (at : ℕ) (f : Field Table) → cares_at cares n bits s at ≡ Ok f
     → (f.value.n ≡ n) × (f.value.bytes ≡ bits) × CaresParts cares s at f.value f.next
 unfolding cares_at CaresParts
 cares_parts false n bits s at f e = let same : field (whole_table n bits) at ≡ f = cc in rw (← same) (refl, refl, (refl, refl))
 cares_parts true n bits s at f e =
     let (cares, read, after) = onward_answered (row_bits_at n s at) tested f e in
-    let (straight, rest) = checked_onward 16 (stray_value (table_of n bits cares.value)) (later cares) f after in
-    let (partial, same) = checked_answered 16 (is_whole (table_of n bits cares.value)) (field (table_of n bits cares.value) cares.next) f rest in
+    let (straight, rest) = checked_onward Refusal'.Care (stray_value (table_of n bits cares.value)) (later cares) f after in
+    let (partial, same) = checked_answered Refusal'.Care (is_whole (table_of n bits cares.value)) (field (table_of n bits cares.value) cares.next) f rest in
     rw (← same) (refl, refl, (bits_written n s at cares read, straight, partial))
   where
     tested : List ℕ → ℕ → Reading Table
-    tested cares next = checked (partial_rules (table_of n bits cares)) (answered (field (table_of n bits cares) next))
+    tested cares next = checked (partial_rules (table_of n bits cares)) (Ok (field (table_of n bits cares) next))
 
     later : Field (List ℕ) → Reading Table
-    later cares = checked (rule 16 (is_whole (table_of n bits cares.value)) ∷ []) (answered (field (table_of n bits cares.value) cares.next))
+    later cares = checked (rule Refusal'.Care (is_whole (table_of n bits cares.value)) ∷ []) (Ok (field (table_of n bits cares.value) cares.next))
 
-table_parts : (cares : Bool) (s : List ℕ) (at : ℕ) (f : Field Table) → table_at cares s at ≡ answered f → TableParts cares s at f.value f.next
+table_parts : (cares : Bool) (s : List ℕ) (at : ℕ) (f : Field Table) → table_at cares s at ≡ Ok f → TableParts cares s at f.value f.next
 unfolding table_at
 table_parts cares s at f e =
     let (n, read-inputs, after_inputs) = onward_answered (inputs_at s at) (λ n p. onward (row_bits_at n s p) (λ bits q. cares_at cares n bits s q)) f e in
@@ -246,7 +248,7 @@ table_parts cares s at f e =
     record {
       middle = n.next;
       after = bits.next;
-      inputs = inputs ∙ ap (λ (m : ℕ). answered (field m n.next)) (sym same);
+      inputs = inputs ∙ ap (λ (m : ℕ). Ok (field m n.next)) (sym same);
       few = ap (ltb input_limit) same ∙ few;
       values = moved n.value n.next bits.value bits.next f.value.n f.value.bytes (sym same) (sym held) (bits_written n.value s n.next bits read-bits);
       cared = cared;
@@ -269,7 +271,7 @@ parts_kept false s at t next few (every, end) =
     (ap (spare_set t.n) every ∙ rows_clear t.n (λ r. true) few, whole_stray t (cares_whole t few every))
 parts_kept true s at t next few (read, straight, partial) = (read.clear, straight)
 
-pub table_taken : (cares : Bool) (s : List ℕ) (at : ℕ) (f : Field Table) → table_at cares s at ≡ answered f → NoneBroken (table_rules f.value [])
+pub table_taken : (cares : Bool) (s : List ℕ) (at : ℕ) (f : Field Table) → table_at cares s at ≡ Ok f → NoneBroken (table_rules f.value [])
 table_taken cares s at f e =
     let p = table_parts cares s at f e in
     let few = ltb-false input_limit f.value.n p.few in
@@ -282,7 +284,7 @@ unfolding CaresParts
 parts_end false s at t next h (every, end) = (omega arith, omega arith)
 parts_end true s at t next h (read, straight, partial) = (omega (arith, read.end), omega (arith, read.end, read.inside))
 
-pub table_next : (cares : Bool) (s : List ℕ) (at : ℕ) (f : Field Table) → table_at cares s at ≡ answered f → (at < f.next) × (f.next ≤ length s)
+pub table_next : (cares : Bool) (s : List ℕ) (at : ℕ) (f : Field Table) → table_at cares s at ≡ Ok f → (at < f.next) × (f.next ≤ length s)
 table_next cares s at f e =
     let p = table_parts cares s at f e in
     let number = number_next s at (field f.value.n p.middle) p.inputs in
@@ -312,7 +314,7 @@ pub record TableRead (cares : Bool) (s : List ℕ) (at : ℕ) (f : Field Table) 
   pub held : Held f.value
   pub whole : is_whole f.value ≡ not cares
 
-pub table_written : (cares : Bool) (s : List ℕ) (at : ℕ) (f : Field Table) → AllBytes s → table_at cares s at ≡ answered f → TableRead cares s at f
+pub table_written : (cares : Bool) (s : List ℕ) (at : ℕ) (f : Field Table) → AllBytes s → table_at cares s at ≡ Ok f → TableRead cares s at f
 unfolding table_bytes
 table_written cares s at f a e =
     let p = table_parts cares s at f e in
@@ -342,7 +344,7 @@ pub record RecordRead (s : List ℕ) (at : ℕ) (f : Field Table) : Type 0 where
   pub forward : at < f.next
   pub within : f.next ≤ length s
 
-pub record_read : (s : List ℕ) (at : ℕ) (f : Field Table) → table_record_at s at ≡ answered f → RecordRead s at f
+pub record_read : (s : List ℕ) (at : ℕ) (f : Field Table) → table_record_at s at ≡ Ok f → RecordRead s at f
 unfolding table_record_at
 record_read s at f e =
     let (kind, is, after) = onward_answered (kind_at tables_alone s at) (λ (h : Head) (p : ℕ). table_at h.cares s p) f e in

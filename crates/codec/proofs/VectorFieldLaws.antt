@@ -1,4 +1,6 @@
 -- The n weights and b of a vector as bytes: what is written is read again, and what is read was written. Assumes nothing.
+use Rattle.types.specs.declared.refusal.Refusal.TheVariants as Refusal'
+use Rattle.std.specs.Prelude.{Ok}
 use mathlib.Core.Path.{◌≡◌, refl, sym, ◌∙◌, ap}
 use mathlib.Core.Bool.{Bool, true, false, not, cond, ◌&&◌}
 use mathlib.Core.List.{List}
@@ -13,7 +15,6 @@ use lib.Dec.{ltb}
 use borrow.Author.Tests.{not-false, ltb-true, ltb-false}
 use Rattle.numbers.proofs.TestLaws.{no_true}
 use Rattle.table.specs.Gate.{weight_limit, within, in_range}
-use Rattle.refusal.specs.Refusal.{answered}
 use Rattle.types.specs.declared.vector.Vector.{Vector}
 use Rattle.function.specs.Vector.{zero_vector}
 use Rattle.function.proofs.RangeLaws.{within_correct, in_range_correct, in_range_at, in_range_past}
@@ -38,22 +39,22 @@ range_kept false z h e = absurd (no_true e)
 
 -- a signed number in its range is read where it stands
 pub signed_read : (strict : Bool) (z : ℤ) (s : List ℕ) (at : ℕ) → within weight_limit z ≡ true → Stands s at (number_bytes (signed_code z))
-    → signed_at strict s at ≡ answered (field z (at + length (number_bytes (signed_code z))))
+    → signed_at strict s at ≡ Ok (field z (at + length (number_bytes (signed_code z))))
 signed_read strict z s at h k = simp (number_read s at (signed_code z) (signed_small z h) k, signed_back z, kept_range strict z h)
 
 -- the number that a signed one was read from
 record SignedParts (strict : Bool) (s : List ℕ) (at : ℕ) (f : Field ℤ) : Type 0 where
   code : Field ℕ
-  number : number_at s at ≡ answered code
+  number : number_at s at ≡ Ok code
   kept : (strict && not (within weight_limit (signed_of code.value))) ≡ false
   value : f.value ≡ signed_of code.value
   next : f.next ≡ code.next
 
-signed_parts : (strict : Bool) (s : List ℕ) (at : ℕ) (f : Field ℤ) → signed_at strict s at ≡ answered f → SignedParts strict s at f
+signed_parts : (strict : Bool) (s : List ℕ) (at : ℕ) (f : Field ℤ) → signed_at strict s at ≡ Ok f → SignedParts strict s at f
 signed_parts strict s at f e =
     let (x, number, rest) = onward_answered (number_at s at) _ f e in
     let z = signed_of x.value in
-    let (kept, same) = checked_answered 7 (strict && not (within weight_limit z)) (field z x.next) f rest in
+    let (kept, same) = checked_answered Refusal'.Gate (strict && not (within weight_limit z)) (field z x.next) f rest in
     record { code = x; number = number; kept = kept; value = cc; next = cc }
 
 -- what reading a signed number gave: its own bytes stand there; it is in its range, where ranges are refused
@@ -63,7 +64,7 @@ pub record SignedRead (strict : Bool) (s : List ℕ) (at : ℕ) (f : Field ℤ) 
   pub ranged : strict ≡ true → within weight_limit f.value ≡ true
 
 -- where a signed number is read, its bytes stand
-pub signed_written : (strict : Bool) (s : List ℕ) (at : ℕ) (f : Field ℤ) → AllBytes s → signed_at strict s at ≡ answered f → SignedRead strict s at f
+pub signed_written : (strict : Bool) (s : List ℕ) (at : ℕ) (f : Field ℤ) → AllBytes s → signed_at strict s at ≡ Ok f → SignedRead strict s at f
 signed_written strict s at f bytes e =
     let p = signed_parts strict s at f e in
     let w = number_written s at p.code bytes p.number in
@@ -105,7 +106,7 @@ all_within_suc w left place here above i low high = by (ℕ_discrete i place)
 -- weights in their range are read where they stand, into an array that agrees with theirs at all other places
 weights_read : (strict : Bool) (left place : ℕ) (a w : List ℤ) (s : List ℕ) (at : ℕ) → length a ≡ 8 → length w ≡ 8 → place + left ≤ 8
     → Agree a w left place → AllWithin w left place → Stands s at (weight_bytes w left place)
-    → weights_at strict left place a s at ≡ answered (field w (at + length (weight_bytes w left place)))
+    → weights_at strict left place a s at ≡ Ok (field w (at + length (weight_bytes w left place)))
 unfolding weight_bytes weights_at
 weights_read strict zero place a w s at long long' h f ranged k =
     rw (ext_get_or (pos 0) a w (long ∙ sym long') (λ i l. f i (omega arith) (λ low. omega arith)), add-zero)
@@ -129,7 +130,7 @@ record WeightsRead (strict : Bool) (left place : ℕ) (a : List ℤ) (s : List �
 
 -- where weights are read, their bytes stand
 weights_written : (strict : Bool) (left place : ℕ) (a : List ℤ) (s : List ℕ) (at : ℕ) (f : Field (List ℤ)) → length a ≡ 8 → place + left ≤ 8
-    → AllBytes s → weights_at strict left place a s at ≡ answered f → WeightsRead strict left place a s at f
+    → AllBytes s → weights_at strict left place a s at ≡ Ok f → WeightsRead strict left place a s at f
 unfolding weight_bytes weights_at
 weights_written strict zero place a s at f long h bytes e =
     let same : f.value ≡ a = cc in
@@ -177,7 +178,7 @@ range_from n w b ranged past low =
 
 -- a vector in its range is read where it stands
 pub vector_read : (strict : Bool) (n : ℕ) (v : Vector) (s : List ℕ) (at : ℕ) → n ≤ 8 → length v.a ≡ 8 → in_range weight_limit n v.a v.b ≡ true
-    → Stands s at (vector_bytes n v) → vector_at strict n s at ≡ answered (field v (at + length (vector_bytes n v)))
+    → Stands s at (vector_bytes n v) → vector_at strict n s at ≡ Ok (field v (at + length (vector_bytes n v)))
 unfolding vector_bytes vector_at
 vector_read strict n v s at h long e k =
     let f = (in_range_correct weight_limit n v.a v.b).0 e in
@@ -195,11 +196,11 @@ vector_read strict n v s at h long e k =
 record VectorParts (strict : Bool) (n : ℕ) (s : List ℕ) (at : ℕ) (f : Field Vector) : Type 0 where
   weights : Field (List ℤ)
   last : Field ℤ
-  first_read : weights_at strict n 0 zero_vector.a s at ≡ answered weights
-  last_read : signed_at strict s weights.next ≡ answered last
+  first_read : weights_at strict n 0 zero_vector.a s at ≡ Ok weights
+  last_read : signed_at strict s weights.next ≡ Ok last
   whole : f ≡ field (record { a = weights.value; b = last.value }) last.next
 
-vector_parts : (strict : Bool) (n : ℕ) (s : List ℕ) (at : ℕ) (f : Field Vector) → vector_at strict n s at ≡ answered f → VectorParts strict n s at f
+vector_parts : (strict : Bool) (n : ℕ) (s : List ℕ) (at : ℕ) (f : Field Vector) → vector_at strict n s at ≡ Ok f → VectorParts strict n s at f
 unfolding vector_at
 vector_parts strict n s at f e =
     let (weights, first, rest) = onward_answered (weights_at strict n 0 zero_vector.a s at) _ f e in
@@ -214,7 +215,7 @@ pub record VectorRead (strict : Bool) (n : ℕ) (s : List ℕ) (at : ℕ) (f : F
   pub ranged : strict ≡ true → in_range weight_limit n f.value.a f.value.b ≡ true
 
 -- where a vector is read, its bytes stand
-pub vector_written : (strict : Bool) (n : ℕ) (s : List ℕ) (at : ℕ) (f : Field Vector) → n ≤ 8 → AllBytes s → vector_at strict n s at ≡ answered f
+pub vector_written : (strict : Bool) (n : ℕ) (s : List ℕ) (at : ℕ) (f : Field Vector) → n ≤ 8 → AllBytes s → vector_at strict n s at ≡ Ok f
     → VectorRead strict n s at f
 unfolding vector_bytes
 vector_written strict n s at f h bytes e =

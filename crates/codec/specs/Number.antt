@@ -1,6 +1,7 @@
 -- Numbers as bytes (document 01, "Records"; the field's terms are LEB128 and zigzag). Definitions only. Assumes nothing.
-use Rattle.std.specs.Prelude.{Bool, true, false, cond, ◌&&◌, List, [], ◌∷◌, ℕ, zero, suc, ◌+◌, ◌-◌, ◌*◌, ◌/◌, ◌%◌, ltb, eqb, get_or, ℤ, pos, negsuc}
-use Rattle.refusal.specs.Refusal.{rule, answered, refused, checked}
+use Rattle.types.specs.declared.refusal.Refusal.TheVariants as Refusal'
+use Rattle.std.specs.Prelude.{Bool, true, false, cond, ◌&&◌, List, [], ◌∷◌, ℕ, zero, suc, ◌+◌, ◌-◌, ◌*◌, ◌/◌, ◌%◌, ltb, eqb, get_or, ℤ, pos, negsuc, Ok, Err}
+use Rattle.refusal.specs.Refusal.{rule, checked}
 use Rattle.codec.specs.Field.{Reading, field, onward, ends_early}
 
 -- the most groups of a number
@@ -18,14 +19,14 @@ number_bytes x = group_bytes group_limit x
 
 -- the last group. 4: it is 0 after another
 abbrev pub last_group : Bool → ℕ → ℕ → Reading ℕ
-last_group later b at = checked (rule 4 (later && eqb b 0) ∷ []) (answered (field b (at + 1)))
+last_group later b at = checked (rule Refusal'.Number (later && eqb b 0) ∷ []) (Ok (field b (at + 1)))
 
 -- a number of at most so many groups; `later` where a group came before. 1: bytes end early. 4: more groups, even if the bytes end there
 unfoldable pub groups_at : ℕ → Bool → List ℕ → ℕ → Reading ℕ
-groups_at zero later s at = refused 4
+groups_at zero later s at = Err Refusal'.Number
 groups_at (suc groups) later s at =
     let b = get_or s at 0 in
-    let more = onward (groups_at groups true s (at + 1)) (λ higher next. answered (field (b - 128 + 128 * higher) next)) in
+    let more = onward (groups_at groups true s (at + 1)) (λ higher next. Ok (field (b - 128 + 128 * higher) next)) in
     checked (ends_early s at 1 ∷ []) (cond (ltb b 128) (last_group later b at) more)
 
 unfoldable pub number_at : List ℕ → ℕ → Reading ℕ

@@ -1,9 +1,12 @@
 -- A row list: its length, then pairs (row, count), rows rising, counts at least 1 (document 01, "Records"). Definitions only.
 -- Assumes nothing.
-use Rattle.std.specs.Prelude.{Bool, true, false, not, ◌&&◌, ◌||◌, List, [], ◌∷◌, ◌++◌, ℕ, zero, suc, ◌+◌, ltb, leb, set}
+use Rattle.types.specs.declared.refusal.Refusal.TheVariants as Refusal'
+use Rattle.std.specs.Prelude.{Bool, true, false, not, ◌&&◌, ◌||◌, List, [], ◌∷◌, ◌++◌, ℕ, zero, suc, ◌+◌, ltb, leb, set, Ok}
+pub use Rattle.types.specs.declared.rows.RowList.{RowList}
+pub use Rattle.types.specs.declared.rows.Pair.{Pair}
 use Rattle.table.specs.Witness.{count_limit}
 use Rattle.function.specs.Witness.{only_if, count_of, zeros}
-use Rattle.refusal.specs.Refusal.{Rule, rule, answered, checked}
+use Rattle.refusal.specs.Refusal.{Rule, rule, checked}
 use Rattle.codec.specs.Field.{Reading, field, onward}
 use Rattle.codec.specs.Number.{number_bytes, number_at}
 
@@ -31,14 +34,9 @@ row_list_bytes counts = number_bytes (filled_from counts 256 0) ++ pairs_from co
 
 -- ---- read
 
--- a row list that was read: its counts, and whether it kept its ranges so far
-pub record RowList : Type 0 where
-  pub counts : List ℕ
-  pub kept : Bool
-
 -- 8, where ranges are refused at once (kind 3); a list of kind 4 or 6 goes on, and its job is not sound
 abbrev pub out_of_range : Bool → Bool → Rule
-out_of_range strict fits = rule 8 (strict && not fits)
+out_of_range strict fits = rule Refusal'.RowList (strict && not fits)
 
 -- at most so many pairs as rows; not empty in kind 3
 abbrev pub length_fits : Bool → ℕ → ℕ → Bool
@@ -51,17 +49,11 @@ row_fits rows lowest row = leb lowest row && ltb row rows
 abbrev pub count_fits : ℕ → Bool
 count_fits count = ltb 0 count && leb count count_limit
 
--- a pair, and whether both of its numbers are in range
-pub record Pair : Type 0 where
-  pub row : ℕ
-  pub count : ℕ
-  pub fits : Bool
-
 unfoldable pub pair_at : Bool → (rows lowest : ℕ) → List ℕ → ℕ → Reading Pair
 pair_at strict rows lowest s at =
     onward (number_at s at) (λ row middle. checked (out_of_range strict (row_fits rows lowest row) ∷ [])
     (onward (number_at s middle) (λ count next. checked (out_of_range strict (count_fits count) ∷ [])
-    (answered (field (record { row = row; count = count; fits = row_fits rows lowest row && count_fits count }) next)))))
+    (Ok (field (record { row = row; count = count; fits = row_fits rows lowest row && count_fits count }) next)))))
 
 -- the lowest row that may come after a pair: rows rise
 abbrev pub lowest_after : Bool → ℕ → ℕ → ℕ
@@ -75,7 +67,7 @@ stored_if false row count list = record { counts = list.counts; kept = false }
 
 -- so many pairs
 unfoldable pub pairs_at : Bool → (rows left lowest : ℕ) → RowList → List ℕ → ℕ → Reading RowList
-pairs_at strict rows zero lowest list s at = answered (field list at)
+pairs_at strict rows zero lowest list s at = Ok (field list at)
 pairs_at strict rows (suc left) lowest list s at =
     onward (pair_at strict rows lowest s at) (λ pair next.
     pairs_at strict rows left (lowest_after pair.fits lowest pair.row) (stored_if pair.fits pair.row pair.count list) s next)

@@ -1,7 +1,6 @@
 // The tables of up to three inputs that gates have, found by trying each gate of small weights.
 use crate::outcome::one_if;
 use cell::value::gate_value;
-use refusal::refusal::Answer;
 use types::gate::Gate;
 
 // The weights and the T that are tried. No table of a gate of up to three inputs needs others: the counts of tables found are the published ones.
@@ -31,11 +30,7 @@ fn gate_of(n: u8, number: u32) -> Gate {
 
 // Whether the gate is true on a row of its table.
 fn is_true(gate: Gate, row: usize) -> bool {
-    match gate_value(gate, row) {
-        Answer::Yes => true,
-        Answer::No => false,
-        Answer::Refused(_) => false,
-    }
+    gate_value(gate, row) == Ok(true)
 }
 
 // Returns the rows on which a gate of up to three inputs is true, as bits.

@@ -3,7 +3,6 @@ ghost use Rattle.std.specs.Prelude.{◌≤◌, ◌<◌};
 
 use cell::checker::{check_gate, check_witness};
 use job::job::Job;
-use refusal::refusal::{Answer, Status};
 use types::stage::Stage;
 use types::table::Table;
 use view::shown::{Verdict, show};
@@ -29,18 +28,19 @@ pub struct Outcome {
 pub fn run(table: Table) -> Outcome
     ensures { (result.stage < 4) × (result.corrections < 4294967296) × (result.accepted ≤ 1) }
 {
-    let started = Job::fresh(table);
-    let made = started.status;
-    let job = started.job;
+    let Ok(job) = Job::fresh(table) else {
+        return Outcome {
+            stage: OPEN,
+            corrections: 0,
+            accepted: 0,
+        };
+    };
     let carried = job.carry_on(Job::CALL_BUDGET);
-    let taken = carried.status;
     let ended = carried.job;
-    let accepted = is_done(made) && is_done(taken) && is_accepted(ended);
-    let state = ended.state;
-    let stage = state.stage;
+    let accepted = carried.status.is_ok() && is_accepted(ended);
     Outcome {
-        stage: stage_number(stage),
-        corrections: state.k as u64,
+        stage: stage_number(ended.state.stage),
+        corrections: ended.state.k as u64,
         accepted: one_if(accepted),
     }
 }
@@ -64,30 +64,12 @@ fn stage_number(stage: Stage) -> usize
     }
 }
 
-// Whether the call was not refused.
-fn is_done(status: Status) -> bool {
-    match status {
-        Status::Done => true,
-        Status::Refused(_) => false,
-    }
-}
-
 // Whether the job shows a gate or a witness to which the checker says yes.
 fn is_accepted(job: Job) -> bool {
-    let shown = show(job);
-    let verdict = shown.verdict;
-    match verdict {
-        Verdict::Gate => is_yes(check_gate(job.table, shown.gate)),
-        Verdict::Witness => is_yes(check_witness(job.table, shown.witness)),
-        Verdict::Open => false,
-        Verdict::Refused(_) => false,
-    }
-}
-
-fn is_yes(answer: Answer) -> bool {
-    match answer {
-        Answer::Yes => true,
-        Answer::No => false,
-        Answer::Refused(_) => false,
+    match show(job) {
+        Ok(Verdict::Gate(gate)) => check_gate(job.table, gate) == Ok(true),
+        Ok(Verdict::Witness(witness)) => check_witness(job.table, witness) == Ok(true),
+        Ok(Verdict::Open) => false,
+        Err(_) => false,
     }
 }

@@ -1,65 +1,19 @@
--- The value of a hex digit by where its character lies, and two digits as a byte. Assumes nothing.
-use mathlib.Core.Path.{◌≡◌, refl, sym, ◌∙◌, ap, ap₂}
-use mathlib.Core.Bool.{Bool, true, false, ◌&&◌}
+-- Hex digits as the bits of a byte, two or one. Assumes nothing.
+use mathlib.Core.Path.{◌≡◌, sym, ◌∙◌, ap, ap₂}
+use mathlib.Core.Bool.{true}
 use mathlib.Core.List.{List}
 use Prim.Native.Nat.{ℕ, zero, suc, ◌+◌, ◌-◌, ◌*◌, ◌/◌, ◌%◌, ◌^◌, ◌≤◌, ◌<◌}
 use native.Mathlib.Decide.{dec_le}
 use native.Mathlib.Omega.{arith}
-use lib.Dec.{leb, eqb}
+use lib.Dec.{eqb}
 use lib.ListN.{length, get_or}
 use lib.Pow.{pow_mono, shr-shr}
-use borrow.Author.Tests.{ltb-true, le-leb, lt-leb}
+use borrow.Author.Tests.{ltb-true}
 use Rattle.numbers.specs.Packed.{bit_in}
 use Rattle.numbers.specs.Tests.{all_below}
 use Rattle.numbers.proofs.TestLaws.{all_below_at}
 use Rattle.table.specs.Table.{rows_of}
-use Rattle.digits.specs.Digits.{between, digit_value, digit_at, digit_row, is_digit}
-
--- ---- one digit
-
-is_between : (low high c : ℕ) → low ≤ c → c ≤ high → between low high c ≡ true
-is_between low high c h k = rw (le-leb low c h, le-leb c high k) refl
-
-is_below : (low high c : ℕ) → c < low → between low high c ≡ false
-is_below low high c h = rw (lt-leb low c h) refl
-
-and_false : (b : Bool) → (b && false) ≡ false
-and_false true = refl
-and_false false = refl
-
-is_above : (low high c : ℕ) → high < c → between low high c ≡ false
-is_above low high c h = rw (lt-leb c high h) (and_false (leb low c))
-
-module _ (c : ℕ) where
-  pub digit_low : c < 48 → 16 ≡ digit_value c
-  unfolding digit_value
-  digit_low h = rw (is_below 48 57 c (omega arith), is_below 65 70 c (omega arith), is_below 97 102 c (omega arith)) refl
-
-  pub digit_figure : 48 ≤ c → c ≤ 57 → c - 48 ≡ digit_value c
-  unfolding digit_value
-  digit_figure h k = rw (is_between 48 57 c h k) refl
-
-  pub digit_mid : 57 < c → c < 65 → 16 ≡ digit_value c
-  unfolding digit_value
-  digit_mid h k = rw (is_above 48 57 c h, is_below 65 70 c k, is_below 97 102 c (omega arith)) refl
-
-  pub digit_upper : 65 ≤ c → c ≤ 70 → c - 65 + 10 ≡ digit_value c
-  unfolding digit_value
-  digit_upper h k = rw (is_above 48 57 c (omega arith), is_between 65 70 c h k) refl
-
-  pub digit_high : 70 < c → c < 97 → 16 ≡ digit_value c
-  unfolding digit_value
-  digit_high h k = rw (is_above 48 57 c (omega arith), is_above 65 70 c h, is_below 97 102 c k) refl
-
-  pub digit_lower : 97 ≤ c → c ≤ 102 → c - 97 + 10 ≡ digit_value c
-  unfolding digit_value
-  digit_lower h k = rw (is_above 48 57 c (omega arith), is_above 65 70 c (omega arith), is_between 97 102 c h k) refl
-
-  pub digit_past : 102 < c → 16 ≡ digit_value c
-  unfolding digit_value
-  digit_past h = rw (is_above 48 57 c (omega arith), is_above 65 70 c (omega arith), is_above 97 102 c h) refl
-
--- ---- two digits
+use Rattle.digits.specs.Digits.{digit_value, digit_at, digit_row, is_digit}
 
 -- the four lower bits are the low digit's, the others the high digit's
 pub low_digit : (high low j : ℕ) → low < 16 → j < 4 → (16 * high + low) / 2 ^ j % 2 ≡ low / 2 ^ j % 2

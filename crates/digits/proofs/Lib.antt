@@ -1,2 +1,2 @@
--- hex digits by their characters, and two as a byte
+-- hex digits as the bits of a byte
 pub mod DigitLaws

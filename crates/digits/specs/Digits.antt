@@ -1,5 +1,6 @@
 -- Tables as hex digits, those of the highest four rows first (docs/FORMAT.md, "Hex digits"). No document has this call, and its own numbers
 -- start at 101. Definitions only. Assumes nothing.
+use Rattle.types.specs.declared.refusal.Refusal.TheVariants as Refusal'
 use Rattle.std.specs.Prelude.{Bool, not, cond, ◌&&◌, List, [], ◌∷◌, ℕ, ◌+◌, ◌-◌, ◌/◌, ◌%◌, eqb, leb, ltb, length, get_or}
 use Rattle.numbers.specs.Packed.{bit_in}
 use Rattle.numbers.specs.Tests.{all_below}
@@ -30,14 +31,14 @@ digit_row digits r = bit_in (digit_at digits (r / 4)) (r % 4)
 
 -- 101: not as many digits as the table has
 abbrev pub other_digits : ℕ → List ℕ → Rule
-other_digits n digits = rule 101 (not (eqb (length digits) (digit_count n)))
+other_digits n digits = rule Refusal'.Digits (not (eqb (length digits) (digit_count n)))
 
 -- 102: a character that is not a digit
 abbrev pub is_digit : List ℕ → ℕ → Bool
 is_digit digits i = ltb (digit_value (get_or digits i 0)) 16
 
 abbrev pub no_digit : List ℕ → Rule
-no_digit digits = rule 102 (not (all_below (length digits) (is_digit digits)))
+no_digit digits = rule Refusal'.Digit (not (all_below (length digits) (is_digit digits)))
 
 -- the record of the table that digits stand for: 2, 101, 102, 12
 abbrev pub from_hex : ℕ → List ℕ → ℕ → Answered (List ℕ)

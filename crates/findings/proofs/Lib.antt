@@ -1,2 +1,2 @@
--- what is handed back of a gate or a witness found, from what was put into what is lent
+-- what a call answers of a gate or a witness found
 pub mod FindingLaws

@@ -5,12 +5,13 @@
 use mathlib.Core.Path.{◌≡◌, refl, sym, ◌∙◌}
 use mathlib.Core.Bool.{Bool, true, false, not, ◌&&◌}
 use mathlib.Core.List.{List}
-use mathlib.Core.Option.{Option, some, none}
+use Rattle.std.specs.Prelude.{Option, Some, None}
 use Prim.Native.Nat.{ℕ, zero, suc, ◌+◌, ◌≤◌, ◌<◌}
 use native.Mathlib.Omega.{arith}
 use lib.ListN.{length, get_or, drop, length-replicate}
 use lib.Seq.{drop-set-lt}
-use Rattle.numbers.specs.Tests.{same_bool, first_from, is_some}
+use Rattle.numbers.specs.Tests.{same_bool, first_from}
+use Rattle.std.specs.Prelude.{is_some}
 use Rattle.numbers.proofs.FirstLaws.{first_some}
 use Rattle.numbers.proofs.TestLaws.{no_true, and_left, and_right}
 use Rattle.function.specs.Function.{Function, levels, rows, raised}
@@ -36,7 +37,7 @@ module _ (f : Function) where
   binate_place_search = refl
 
   -- it is one of the inputs
-  pub binate_place_lt : (place : ℕ) → binate_place f ≡ some place → place < f.places
+  pub binate_place_lt : (place : ℕ) → binate_place f ≡ Some place → place < f.places
   binate_place_lt place e = omega (arith, (first_some (binate_at f) f.places 0 place (sym binate_place_search ∙ e)).inside)
 
   -- the counts are those of the two searches' pairs, one on top of the other
@@ -59,8 +60,8 @@ module _ (f : Function) (to : Bool) (place : ℕ) where
   -- a pair leaves the counts past the rows as they were
   pair_past : (o : Option ℕ) (counts : List ℕ) → place < f.places → first_turn f to place ≡ o
       → drop (rows f) (pair_more (suc f.top) place o counts) ≡ drop (rows f) counts
-  pair_past none counts h e = refl
-  pair_past (some r) counts h e =
+  pair_past None counts h e = refl
+  pair_past (Some r) counts h e =
       let both = first_turn_rows f to place r h e in
       let first = one_more r counts in
       drop-set-lt (rows f) first (raised f place r) (get_or first (raised f place r) 0 + 1) both.1
@@ -69,8 +70,8 @@ module _ (f : Function) (to : Bool) (place : ℕ) where
   -- and those of the rows that are not cared for
   pair_cared : (o : Option ℕ) (counts : List ℕ) (q : ℕ) → first_turn f to place ≡ o → f.cared q ≡ false
       → get_or (pair_more (suc f.top) place o counts) q 0 ≡ get_or counts q 0
-  pair_cared none counts q e free = refl
-  pair_cared (some r) counts q e free =
+  pair_cared None counts q e free = refl
+  pair_cared (Some r) counts q e free =
       let turn = first_turn_turns f to place r e in
       one_more_other (raised f place r) q (one_more r counts) (cared_apart f free turn.partner_cared)
       ∙ one_more_other r q counts (cared_apart f free turn.cared)
@@ -114,8 +115,8 @@ pair_terms false false x l g = omega arith
 
 module _ (f : Function) (few : rows f ≤ 256) (place : ℕ) (below : place < f.places) where
   -- the first turn gives both sides the levels of its row, and its own side the input besides
-  turn_sum : (to side : Bool) (r : ℕ) (counts : List ℕ) (i : ℕ) → length counts ≡ 256 → first_turn f to place ≡ some r
-      → side_sum f side (count_of (pair_more (suc f.top) place (some r) counts)) i
+  turn_sum : (to side : Bool) (r : ℕ) (counts : List ℕ) (i : ℕ) → length counts ≡ 256 → first_turn f to place ≡ Some r
+      → side_sum f side (count_of (pair_more (suc f.top) place (Some r) counts)) i
       ≡ side_sum f side (count_of counts) i + input_level (levels f r) i + only_if (same_bool to side) (gain place i)
   turn_sum to side r counts i size e =
       let turn = first_turn_turns f to place r e in
@@ -130,16 +131,16 @@ module _ (f : Function) (few : rows f ≤ 256) (place : ℕ) (below : place < f.
       (pair_terms to side (side_sum f side (count_of counts) i) (input_level (levels f r) i) (gain place i))
 
   -- a turn each way gives both sides the same
-  binate_sum : (side : Bool) (r q i : ℕ) → first_turn f true place ≡ some r → first_turn f false place ≡ some q
+  binate_sum : (side : Bool) (r q i : ℕ) → first_turn f true place ≡ Some r → first_turn f false place ≡ Some q
       → side_sum f side (count_of (binate_counts f place)) i ≡ input_level (levels f r) i + input_level (levels f q) i + gain place i
   unfolding binate_counts
   binate_sum side r q i rises falls =
-      let none = length-replicate {A = ℕ} 256 0 in
+      let None = length-replicate {A = ℕ} 256 0 in
       rw (
         rises,
         falls,
-        turn_sum false side q (pair_more (suc f.top) place (some r) zeros) i (length_pair_more (suc f.top) place (some r) zeros ∙ none) falls,
-        turn_sum true side r zeros i none rises,
+        turn_sum false side q (pair_more (suc f.top) place (Some r) zeros) i (length_pair_more (suc f.top) place (Some r) zeros ∙ None) falls,
+        turn_sum true side r zeros i None rises,
         side_sum_zeros f side i,
       )
       (by side (input_level (levels f r) i) (input_level (levels f q) i) (gain place i))
@@ -150,12 +151,12 @@ module _ (f : Function) (few : rows f ≤ 256) (place : ℕ) (below : place < f.
 
 -- ---- the balance
 
-found_some : (o : Option ℕ) → is_some o ≡ true → (r : ℕ) × (o ≡ some r)
-found_some none e = absurd (no_true e)
-found_some (some r) e = (r, refl)
+found_some : (o : Option ℕ) → is_some o ≡ true → (r : ℕ) × (o ≡ Some r)
+found_some None e = absurd (no_true e)
+found_some (Some r) e = (r, refl)
 
 -- both sides of a binate input's counts have the same sums, of total 2
-pub binate_sums : (f : Function) (place : ℕ) → rows f ≤ 256 → binate_place f ≡ some place
+pub binate_sums : (f : Function) (place : ℕ) → rows f ≤ 256 → binate_place f ≡ Some place
     → (sum : ℕ → ℕ) × (sum 0 ≡ 2) × ((side : Bool) (i : ℕ) → side_sum f side (count_of (binate_counts f place)) i ≡ sum i)
 unfolding binate_place binate_at
 binate_sums f place few e =
@@ -170,7 +171,7 @@ binate_sums f place few e =
     )
 
 -- so they balance
-pub binate_counts_balance : (f : Function) (place : ℕ) → rows f ≤ 256 → binate_place f ≡ some place → Balances f (count_of (binate_counts f place))
+pub binate_counts_balance : (f : Function) (place : ℕ) → rows f ≤ 256 → binate_place f ≡ Some place → Balances f (count_of (binate_counts f place))
 binate_counts_balance f place few e =
     let (sum, two, sums) = binate_sums f place few e in
     record {

@@ -3,7 +3,7 @@ use mathlib.Core.Path.{◌≡◌, refl, sym, ◌∙◌, ap}
 use mathlib.Core.Logic.{◌≢◌, ◌↔◌}
 use mathlib.Core.Bool.{true}
 use mathlib.Core.List.{List, [], ◌∷◌}
-use mathlib.Core.Option.{Option, some, none}
+use Rattle.std.specs.Prelude.{Option, Some, None}
 use Prim.Native.Nat.{ℕ, zero, suc, ◌+◌, ◌^◌, ◌≤◌, ◌<◌}
 use native.Mathlib.Omega.{arith}
 use lib.Dec.{eqb}
@@ -40,13 +40,13 @@ one_more_le (suc r) (suc q) (x ∷ xs) = one_more_le r q xs
 module _ (base place : ℕ) where
   -- there are as many counts as before
   pub length_pair_more : (o : Option ℕ) (counts : List ℕ) → length (pair_more base place o counts) ≡ length counts
-  length_pair_more none counts = refl
-  length_pair_more (some r) counts = length_one_more (r + base ^ place) (one_more r counts) ∙ length_one_more r counts
+  length_pair_more None counts = refl
+  length_pair_more (Some r) counts = length_one_more (r + base ^ place) (one_more r counts) ∙ length_one_more r counts
 
   -- a pair adds at most 2 to a count
   pub pair_more_le : (o : Option ℕ) (counts : List ℕ) (q : ℕ) → get_or (pair_more base place o counts) q 0 ≤ get_or counts q 0 + 2
-  pair_more_le none counts q = omega arith
-  pair_more_le (some r) counts q = omega (arith, one_more_le (r + base ^ place) q (one_more r counts), one_more_le r q counts)
+  pair_more_le None counts q = omega arith
+  pair_more_le (Some r) counts q = omega (arith, one_more_le (r + base ^ place) q (one_more r counts), one_more_le r q counts)
 
 -- ---- no counts
 

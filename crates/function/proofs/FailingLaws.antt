@@ -1,7 +1,7 @@
 -- Laws of failing rows: the test of a false row, and the lowest failing row. Assumes nothing.
 use mathlib.Core.Path.{◌≡◌, refl}
 use mathlib.Core.Bool.{Bool, true, false}
-use mathlib.Core.Option.{some, none}
+use Rattle.std.specs.Prelude.{Some, None}
 use Prim.Native.Nat.{ℕ, ◌<◌}
 use native.Mathlib.Omega.{arith}
 use lib.IntN.{ℤ, pos, negsuc, neg_ℤ}
@@ -39,21 +39,21 @@ module _ (f : Function) (v : Vector) where
   passes_margin r care e = rw care at e
 
   -- what is found is a row that fails, and none below it does
-  pub failing_some : (r : ℕ) → failing f v ≡ some r → IsFirst (fails f v) (rows f) 0 r
+  pub failing_some : (r : ℕ) → failing f v ≡ Some r → IsFirst (fails f v) (rows f) 0 r
   unfolding failing
   failing_some r e = first_some (fails f v) (rows f) 0 r e
 
   -- such a row is what is found
-  pub failing_at : (r : ℕ) → IsFirst (fails f v) (rows f) 0 r → failing f v ≡ some r
+  pub failing_at : (r : ℕ) → IsFirst (fails f v) (rows f) 0 r → failing f v ≡ Some r
   unfolding failing
   failing_at r first = first_at (fails f v) (rows f) 0 r first
 
   -- where nothing is found, no row fails
-  pub failing_none : failing f v ≡ none → (r : ℕ) → r < rows f → fails f v r ≡ false
+  pub failing_none : failing f v ≡ None → (r : ℕ) → r < rows f → fails f v r ≡ false
   unfolding failing
   failing_none e r h = first_none (fails f v) (rows f) 0 e r (omega arith) (omega arith)
 
   -- where no row fails, nothing is found
-  pub none_failing : ((r : ℕ) → r < rows f → fails f v r ≡ false) → failing f v ≡ none
+  pub none_failing : ((r : ℕ) → r < rows f → fails f v r ≡ false) → failing f v ≡ None
   unfolding failing
   none_failing h = first_fails (fails f v) (rows f) 0 (λ r l k. h r (omega arith))

@@ -2,7 +2,7 @@
 use mathlib.Core.Path.{◌≡◌, refl, sym, ◌∙◌}
 use mathlib.Core.Bool.{Bool, true, false, not, ◌&&◌}
 use mathlib.Core.Logic.{◌↔◌}
-use mathlib.Core.Option.{some, none}
+use Rattle.std.specs.Prelude.{Some, None}
 use Prim.Native.Nat.{ℕ, ◌<◌}
 use native.Mathlib.Omega.{arith}
 use borrow.Author.Tests.{ltb-true, lt-ltb}
@@ -64,19 +64,19 @@ module _ (f : Function) (to : Bool) (place : ℕ) where
   first_turn_search = refl
 
   -- a first turn that is found is the lowest row that turns
-  pub first_turn_some : (r : ℕ) → first_turn f to place ≡ some r → IsFirst (turns_at f to place) (rows f) 0 r
+  pub first_turn_some : (r : ℕ) → first_turn f to place ≡ Some r → IsFirst (turns_at f to place) (rows f) 0 r
   first_turn_some r e = first_some (turns_at f to place) (rows f) 0 r (sym first_turn_search ∙ e)
 
   -- where none is found no row turns
-  pub first_turn_none : first_turn f to place ≡ none → (r : ℕ) → r < rows f → turns_at f to place r ≡ false
+  pub first_turn_none : first_turn f to place ≡ None → (r : ℕ) → r < rows f → turns_at f to place r ≡ false
   first_turn_none e r h = first_none (turns_at f to place) (rows f) 0 (sym first_turn_search ∙ e) r (omega arith) (omega arith)
 
   -- it turns the value
-  pub first_turn_turns : (r : ℕ) → first_turn f to place ≡ some r → Turns f to place r
+  pub first_turn_turns : (r : ℕ) → first_turn f to place ≡ Some r → Turns f to place r
   first_turn_turns r e = (turns_at_correct r).0 (first_turn_some r e).passes
 
   -- both its rows are rows of the function
-  pub first_turn_rows : (r : ℕ) → place < f.places → first_turn f to place ≡ some r → (r < rows f) × (raised f place r < rows f)
+  pub first_turn_rows : (r : ℕ) → place < f.places → first_turn f to place ≡ Some r → (r < rows f) × (raised f place r < rows f)
   first_turn_rows r h e =
       let row : r < rows f = omega (arith, (first_turn_some r e).inside) in
       (row, raised_below f.top f.places r place h (first_turn_turns r e).below row)

@@ -1,6 +1,6 @@
 -- Which rows fail by a vector (document 01, "The stepping machine"). Definitions only. Assumes nothing.
 use Rattle.std.specs.Prelude.{Bool, true, false, ◌&&◌, ℕ, ℤ, pos, neg_ℤ}
-use Rattle.std.proofs.Math.Option.{Option}
+use Rattle.std.specs.Prelude.{Option}
 use Rattle.std.specs.Int.Signed.{lt_z}
 use Rattle.numbers.specs.Tests.{first_from}
 use Rattle.types.specs.declared.vector.Vector.{Vector}

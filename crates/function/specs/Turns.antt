@@ -1,7 +1,7 @@
 -- The rows in which an input turns the value (document 01, "Kinds, Chow, report" and "The stepping machine"). Definitions only.
 -- Assumes nothing.
 use Rattle.std.specs.Prelude.{Bool, not, ◌&&◌, ℕ, ltb}
-use Rattle.std.proofs.Math.Option.{Option}
+use Rattle.std.specs.Prelude.{Option}
 use Rattle.numbers.specs.Tests.{same_bool, first_from}
 use Rattle.function.specs.Function.{Function, levels, rows, raised}
 

@@ -1,5 +1,5 @@
 // A threshold gate: its distance and value on a row, and whether it realises a table.
-ghost use Rattle.std.specs.Prelude.{◌≡◌, not, ◌||◌, ◌≤◌, ◌<◌, pos, get_or};
+ghost use Rattle.std.specs.Prelude.{◌≡◌, not, ◌||◌, ◌≤◌, ◌<◌};
 ghost use Rattle.numbers.specs.Tests.{same_bool};
 ghost use Rattle.table.specs.Gate.{within, place_limit, in_range, beyond};
 ghost use Rattle.table.specs.Table.{value, cared, function_of};
@@ -15,15 +15,13 @@ pub fn row_distance(weights: [i32; 8], threshold: i32, row: usize) -> i64
     requires { row < 256 }
     ensures { result ≡ distance weights threshold (level 2 row) }
 {
-    let mut sum: i64 = 0;
-    let mut place: usize = 0;
-    while place < 8 {
+    let mut sum = 0i64;
+    for (place, weight) in weights.iter().enumerate() {
         if (row >> place) % 2 == 1 {
-            sum = sum + weights[place] as i64;
+            sum += i64::from(*weight);
         }
-        place = place + 1;
     }
-    sum - threshold as i64
+    sum - i64::from(threshold)
 }
 
 // Whether the gate is true on a row: the sum is at least T.
@@ -31,8 +29,7 @@ pub fn gate_true(gate: Gate, row: usize) -> bool
     requires { row < 256 }
     ensures { result ≡ gate_true gate.weights gate.threshold (level 2 row) }
 {
-    let weights = gate.weights;
-    row_distance(weights, gate.threshold, row) >= 0
+    row_distance(gate.weights, gate.threshold, row) >= 0
 }
 
 // Whether the gate agrees with the table on a row, or the row is not cared for.
@@ -40,10 +37,7 @@ fn agrees_at(table: Table, gate: Gate, row: usize) -> bool
     requires { row < 256 }
     ensures { result ≡ (not (cared table row) || same_bool (gate_true gate.weights gate.threshold (level 2 row)) (value table row)) }
 {
-    if gate_true(gate, row) == row_value(table, row) {
-        return true;
-    }
-    !row_cared(table, row)
+    !row_cared(table, row) || gate_true(gate, row) == row_value(table, row)
 }
 
 // Whether the gate agrees with the table on every row that is cared for.
@@ -52,12 +46,10 @@ pub fn gate_realises(table: Table, gate: Gate) -> bool
     ensures { result ≡ realises gate.weights gate.threshold (function_of table) }
 {
     let rows = row_count(table.n);
-    let mut row: usize = 0;
-    while row < rows {
+    for row in 0..rows {
         if !agrees_at(table, gate, row) {
             return false;
         }
-        row = row + 1;
     }
     true
 }
@@ -69,8 +61,7 @@ pub const WEIGHT_LIMIT: u32 = 1_000_000;
 pub fn is_within(x: i32, limit: u32) -> bool
     ensures { result ≡ within limit x }
 {
-    let most = limit as i64;
-    0 - most <= x as i64 && x as i64 <= most
+    x.unsigned_abs() <= limit
 }
 
 // Returns the most that a place may hold where the first n have a limit.
@@ -80,35 +71,21 @@ fn place_limit(limit: u32, n: usize, place: usize) -> u32
     if place < n { limit } else { 0 }
 }
 
-// Whether the weight at a place is within its limit.
-fn weight_within(weights: [i32; 8], n: usize, limit: u32, place: usize) -> bool
-    requires { place < 8 }
-    ensures { result ≡ within (place_limit limit n place) (get_or weights place (pos 0)) }
-{
-    is_within(weights[place], place_limit(limit, n, place))
-}
-
 // Whether the weights of n inputs and T lie within ±limit, and the places past n hold 0.
 pub fn in_range(weights: [i32; 8], threshold: i32, n: u8, limit: u32) -> bool
     ensures { result ≡ in_range limit n weights threshold }
 {
-    if !is_within(threshold, limit) {
-        return false;
-    }
-    let mut place: usize = 0;
-    while place < 8 {
-        if !weight_within(weights, n as usize, limit, place) {
+    for (place, weight) in weights.iter().enumerate() {
+        if !is_within(*weight, place_limit(limit, n as usize, place)) {
             return false;
         }
-        place = place + 1;
     }
-    true
+    is_within(threshold, limit)
 }
 
 // Whether a weight or T is beyond its range, or a place past n is not 0.
 pub fn gate_beyond(gate: Gate) -> bool
     ensures { result ≡ beyond gate }
 {
-    let weights = gate.weights;
-    !in_range(weights, gate.threshold, gate.n, WEIGHT_LIMIT)
+    !in_range(gate.weights, gate.threshold, gate.n, WEIGHT_LIMIT)
 }

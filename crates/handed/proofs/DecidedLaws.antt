@@ -1,26 +1,25 @@
 -- The jobs whose outcome is written keep their rules, and K has grown by the corrections made: the job of a table after one carry-on, and
 -- a job that was carried on. Assumes nothing.
-use mathlib.Core.Path.{◌≡◌, refl, sym, ◌∙◌, ap, subst}
+use Rattle.std.specs.Prelude.{Ok}
+use mathlib.Core.Path.{◌≡◌, ◌∙◌, ap, subst}
 use mathlib.Core.Logic.{◌≢◌}
 use mathlib.Core.List.{[], ◌∷◌}
 use Prim.Native.Nat.{ℕ, ◌+◌, ◌≤◌}
 use native.Mathlib.Omega.{arith}
 use borrow.Author.Tests.{ltb-false}
 use Rattle.types.specs.declared.table.Table.{Table}
-use Rattle.refusal.specs.Refusal.{Answered, answered, refused, checked, NoneBroken, none, also, and_then}
+use Rattle.refusal.specs.Refusal.{Answered, checked, NoneBroken, none, also}
 use Rattle.refusal.specs.TableRules.{table_rules}
 use Rattle.refusal.proofs.RefusalLaws.{answered_none_broken}
 use Rattle.refusal.proofs.TableChecked.{kept_inputs, table_kept}
-use Rattle.refusal.specs.declared.refusal.Status.TheVariants as Status'
 use Rattle.job.specs.declared.job.Job.{Job}
-use Rattle.job.specs.declared.job.Carried.{Carried}
 use Rattle.types.specs.declared.stage.Stage.{Stage}
 use Rattle.types.specs.declared.stage.Stage.TheVariants.{Open}
 use Rattle.job.specs.Machine.{run, fresh, decided}
 use Rattle.job.specs.Sound.{cap, Sound}
-use Rattle.job.specs.Calls.{call_budget, job_rules, budget_range, past_cap, if_open, carry_on, carried}
+use Rattle.job.specs.Calls.{call_budget, job_rules, budget_range, past_cap, if_open, carry_on}
 use Rattle.outcome.specs.Outcome.{outcome_written}
-use Rattle.handed.specs.Handed.{handed_back, taken_with, with_made}
+use Rattle.handed.specs.Handed.{handed_back, with_made}
 use Rattle.job.proofs.MachineLaws.{fresh_table, fresh_k, open_or_ended, run_table}
 use Rattle.job.proofs.SoundLaws.{is_sound_correct}
 use Rattle.job.proofs.Soundness.{fresh_sound, run_sound_from}
@@ -61,57 +60,27 @@ decided_handed t room e = ap (λ (j : Job). with_made j.state.k (outcome_written
 
 -- ---- a carry-on
 
--- r is what the call returned for the job j, a what it comes to
-module _ (j : Job) (a : Answered Job) {r : Carried} (says : r ≡ carried j a) where
-  -- a refusal
-  pub carried_refused : {n : ℕ} → r.status ≡ Status'.Refused n → refused n ≡ a
-  carried_refused {n} e = by a (ap (λ (x : Carried). x.status) (sym says) ∙ e)
-    where
-      by : (x : Answered Job) → (carried j x).status ≡ Status'.Refused n → refused n ≡ x
-      by (answered next) q = let z : ◌≡◌ {A = ℕ} 0 1 = cc in absurd (omega arith)
-      by (refused m) q = cc
-
-  -- else the job after the call
-  pub carried_done : r.status ≡ Status'.Done → a ≡ answered r.job
-  carried_done e = by a (ap (λ (x : Carried). x.status) (sym says) ∙ e) ∙ ap (λ (x : Carried). answered x.job) (sym says)
-    where
-      by : (x : Answered Job) → (carried j x).status ≡ Status'.Done → x ≡ answered (carried j x).job
-      by (answered next) q = refl
-      by (refused m) q = let z : ◌≡◌ {A = ℕ} 0 1 = cc in absurd (omega arith)
-
-  -- what a call takes of which is handed back with the corrections made
-  pub carried_handed : {A : Type 0} (takes : Job → Answered A) → r.status ≡ Status'.Done
-      → with_made r.made (takes r.job) ≡ and_then a (taken_with takes j)
-  carried_handed takes e =
-      ap (λ (x : Carried). with_made x.made (takes x.job)) says
-      ∙ by a (ap (λ (x : Carried). x.status) (sym says) ∙ e)
-    where
-      by : (x : Answered Job) → (carried j x).status ≡ Status'.Done
-          → with_made (carried j x).made (takes (carried j x).job) ≡ and_then x (taken_with takes j)
-      by (answered next) q = refl
-      by (refused m) q = let z : ◌≡◌ {A = ℕ} 0 1 = cc in absurd (omega arith)
-
 module _ (j next : Job) (b : ℕ) where
   abbrev below : Answered Job
-  below = checked (past_cap j b ∷ []) (answered (run b j))
+  below = checked (past_cap j b ∷ []) (Ok (run b j))
 
   -- an open job that is carried on: no rule is broken
-  opened : (x : Stage) → x ≡ Open → checked (job_rules j (budget_range b ∷ [])) (if_open x below (answered j)) ≡ answered next
+  opened : (x : Stage) → x ≡ Open → checked (job_rules j (budget_range b ∷ [])) (if_open x below (Ok j)) ≡ Ok next
       → NoneBroken (job_rules j (budget_range b ∷ past_cap j b ∷ [])) × (run b j ≡ next)
   opened x o e = answered_none_broken (job_rules j (budget_range b ∷ past_cap j b ∷ [])) (run b j) next (rw o at e)
 
   -- an ended job stays as it is
-  ended : (x : Stage) → x ≢ Open → checked (job_rules j (budget_range b ∷ [])) (if_open x below (answered j)) ≡ answered next
+  ended : (x : Stage) → x ≢ Open → checked (job_rules j (budget_range b ∷ [])) (if_open x below (Ok j)) ≡ Ok next
       → NoneBroken (job_rules j (budget_range b ∷ [])) × (j ≡ next)
   ended x h e =
       answered_none_broken (job_rules j (budget_range b ∷ [])) j next
-      (ap (checked (job_rules j (budget_range b ∷ []))) (if_open_ended x below (answered j) h) ∙ e)
+      (ap (checked (job_rules j (budget_range b ∷ []))) (if_open_ended x below (Ok j) h) ∙ e)
 
   capped : NoneBroken (budget_range b ∷ past_cap j b ∷ []) → j.state.k + b ≤ cap
   capped (also budget (also past end)) = ltb-false cap (j.state.k + b) past
 
   -- the job after the call keeps its rules
-  pub carried_kept : carry_on j b ≡ answered next → NoneBroken (job_rules next [])
+  pub carried_kept : carry_on j b ≡ Ok next → NoneBroken (job_rules next [])
   carried_kept e = by (open_or_ended j.state.stage)
     where
       by : Dec (j.state.stage ≡ Open) → NoneBroken (job_rules next [])

@@ -1,11 +1,12 @@
 -- What `decide` and `carry_on` hand back: what the job has come to, as the bytes of a record, with the corrections made (document 01, "The
 -- stepping machine"). Definitions only. Assumes nothing.
-use Rattle.std.specs.Prelude.{◌≡◌, List, ℕ, ◌-◌, ℤ}
+use Rattle.std.specs.Prelude.{◌≡◌, List, ℕ, ◌-◌, ℤ, Ok, Err}
 use Rattle.types.specs.declared.table.Table.{Table}
-use Rattle.refusal.specs.Refusal.{Answered, answered, refused, and_then}
+use Rattle.refusal.specs.Refusal.{Answered, and_then}
 use Rattle.job.specs.declared.job.Job.{Job}
 use Rattle.job.specs.Machine.{fresh, decided}
 use Rattle.job.specs.Calls.{carry_on}
+use Rattle.writers.specs.Calls.{WroteBytes}
 use Rattle.results.specs.Result.{Returned}
 use Rattle.outcome.specs.Outcome.{outcome_written}
 
@@ -16,18 +17,22 @@ pub record Handed (A : Type 0) : Type 0 where
 
 -- what is handed back, with the corrections made
 abbrev pub with_made : {A : Type 0} → ℕ → Answered A → Answered (Handed A)
-with_made made a = and_then a (λ x. answered (record { value = x; made = made }))
+with_made made a = and_then a (λ x. Ok (record { value = x; made = made }))
 
 -- it alone
 abbrev pub value_of : {A : Type 0} → Answered (Handed A) → Answered A
-value_of a = and_then a (λ h. answered h.value)
+value_of a = and_then a (λ h. Ok h.value)
 
 -- the lent number after the call: the corrections made; a refused call keeps it
 abbrev pub made_after : {A : Type 0} → ℕ → Answered (Handed A) → ℕ
-made_after old (answered h) = h.made
-made_after old (refused n) = old
+made_after old (Ok h) = h.made
+made_after old (Err n) = old
 
--- a call that hands back bytes, or other numbers, has come to this: what it returns, the lent buffer, and the lent number, before and after it
+-- a call that hands back bytes, or other numbers, has come to this: what it answers, the lent buffer, and the lent number, before and after it
+abbrev pub HandedBack : Answered (Handed (List ℕ)) → (old : List ℕ) (held : ℕ) → Answered ℕ → (new : List ℕ) (made : ℕ) → Type 0
+HandedBack a old held r new made = WroteBytes (value_of a) old r new × (made ≡ made_after held a)
+
+-- and what it returns to C
 abbrev pub HandedOver : Answered (Handed (List ℕ)) → (old : List ℕ) (held : ℕ) → ℤ → (new : List ℕ) (made : ℕ) → Type 0
 HandedOver a old held r new made = Returned (value_of a) old r new × (made ≡ made_after held a)
 

@@ -1,2 +1,2 @@
--- what the code's kind bytes stand for
+-- the kinds that a caller takes
 pub mod Heads

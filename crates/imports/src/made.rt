@@ -1,13 +1,13 @@
 // What is made of rows: the bits of a byte that are rows of a table, and the record of the table.
-ghost use Rattle.std.specs.Prelude.{◌≡◌, ◌&&◌, ◌≤◌, ltb, length};
+ghost use Rattle.std.specs.Prelude.{◌≡◌, ◌&&◌, ◌≤◌, ltb};
 ghost use Rattle.numbers.specs.Packed.{packed, bit_in};
 ghost use Rattle.table.specs.Table.{rows_of};
-ghost use Rattle.records.specs.Record.{of_table};
-ghost use Rattle.writers.specs.Calls.{write_record};
-ghost use Rattle.results.specs.Result.{Returned};
+ghost use Rattle.writers.specs.Calls.{Wrote};
 
-use results::result::written_length;
+use records::record::Record;
+use results::result::short_length;
 use table::table::row_count;
+use types::refusal::Refusal;
 use types::table::Table;
 use writers::write::write_table;
 
@@ -23,10 +23,9 @@ pub fn kept_bits(byte: u8, n: u8) -> u8
 }
 
 // Writes the record of a table. Returns the length. Refusals: those of the table, 12.
-pub fn put_table_record(table: Table, out: &mut [u8]) -> i64
+pub fn put_table_record(table: Table, out: &mut [u8]) -> Result<u32, Refusal>
     requires { table.n ≤ 8 }
-    ensures { Returned (write_record (of_table table) (length out.old)) out.old result out.new }
+    ensures { Wrote (Record.Table table) out.old result out.new }
 {
-    let answer = write_table(table, out);
-    written_length(answer)
+    short_length(write_table(table, out))
 }

@@ -1,2 +1,2 @@
--- how many bytes, and the byte at each position
+-- Chow's parameters as bytes, and bytes as a loop stores them
 pub mod ByteLaws

@@ -4,7 +4,6 @@ use Rattle.std.specs.Prelude.{List, [], ◌∷◌, map, ℕ, ◌-◌, ◌/◌, �
 use Rattle.types.specs.declared.table.Table.{Table}
 use Rattle.types.specs.declared.inputs.InputKind.{InputKind}
 use Rattle.types.specs.declared.inputs.InputKind.TheVariants.{Idle, Rising, Falling, Binate}
-use Rattle.types.specs.declared.inputs.Place.{Place}
 use Rattle.table.specs.Inputs.{kinds_of}
 use Rattle.table.specs.Chow.{chow_of}
 use Rattle.inputs.specs.declared.asked.Asked.{Asked}
@@ -18,8 +17,8 @@ input_byte Falling = 2
 input_byte Binate = 3
 
 -- a byte for each place
-abbrev pub input_bytes : List Place → List ℕ
-input_bytes places = map (λ (p : Place). input_byte p.kind) places
+abbrev pub input_bytes : List InputKind → List ℕ
+input_bytes kinds = map input_byte kinds
 
 -- a signed number as two bytes hold it: a negative z as 65536 + z
 abbrev pub word : ℤ → ℕ

@@ -1,11 +1,10 @@
 // The kinds and Chow's parameters of a table's inputs, as bytes.
 ghost use Rattle.std.specs.Prelude.{◌≡◌, ◌<◌, length, get_or};
-ghost use Rattle.writers.specs.Calls.{fitted};
-ghost use Rattle.results.specs.Result.{Returned};
+ghost use Rattle.writers.specs.Calls.{fitted, WroteBytes};
 ghost use Rattle.inputs.specs.Inputs.{input_byte, input_bytes, word, chow_bytes};
 
-use results::result::refusal;
-use types::inputs::{InputKind, Place};
+use types::inputs::InputKind;
+use types::refusal::Refusal;
 use writing::length::signed_code;
 
 // Returns the byte of a kind: 0 idle, 1 rising, 2 falling, 3 binate.
@@ -21,20 +20,16 @@ fn input_byte(kind: InputKind) -> u8
 }
 
 // Writes the bytes of eight kinds. Returns 8, or the refusal: 12.
-pub fn put_kinds(places: [Place; 8], out: &mut [u8]) -> i64
-    ensures { Returned (fitted (length out.old) (input_bytes places)) out.old result out.new }
+pub fn put_kinds(kinds: [InputKind; 8], out: &mut [u8]) -> Result<u32, Refusal>
+    ensures { WroteBytes (fitted (length out.old) (input_bytes kinds)) out.old result out.new }
 {
     if out.len() < 8 {
-        return refusal(12);
+        return Err(Refusal::Room);
     }
-    let mut place: usize = 0;
-    while place < 8 {
-        let here = places[place];
-        let kind = here.kind;
-        out[place] = input_byte(kind);
-        place = place + 1;
+    for (place, kind) in kinds.iter().enumerate() {
+        out[place] = input_byte(*kind);
     }
-    8
+    Ok(8)
 }
 
 // Returns a signed number as two bytes hold it: a negative z as 65536 + z. Its code in records tells the sign by its last bit.
@@ -60,16 +55,14 @@ fn chow_byte(q: [i32; 8], at: usize) -> u8
 }
 
 // Writes the bytes of eight q. Returns 16, or the refusal: 12.
-pub fn put_chow(q: [i32; 8], out: &mut [u8]) -> i64
-    ensures { Returned (fitted (length out.old) (chow_bytes q)) out.old result out.new }
+pub fn put_chow(q: [i32; 8], out: &mut [u8]) -> Result<u32, Refusal>
+    ensures { WroteBytes (fitted (length out.old) (chow_bytes q)) out.old result out.new }
 {
     if out.len() < 16 {
-        return refusal(12);
+        return Err(Refusal::Room);
     }
-    let mut at: usize = 0;
-    while at < 16 {
+    for at in 0..16 {
         out[at] = chow_byte(q, at);
-        at = at + 1;
     }
-    16
+    Ok(16)
 }

@@ -1,11 +1,11 @@
 -- What `Job::decided` gives of a table that keeps its format: the machine's job after the whole call budget, which is what one carry-on of
 -- the fresh job gives. Assumes nothing.
-use Rattle.std.specs.Prelude.{◌≡◌, ◌+◌, ◌≤◌, [], ◌∷◌}
+use Rattle.std.specs.Prelude.{◌≡◌, ◌+◌, ◌≤◌, [], ◌∷◌, Ok}
 use mathlib.Core.Path.{refl, sym, ap, ◌∙◌}
 use native.Mathlib.Omega.{arith}
 use borrow.Author.Tests.{le-ltb}
 use Rattle.types.specs.declared.table.Table.{Table}
-use Rattle.refusal.specs.Refusal.{Answered, answered, checked, NoneBroken, none, also}
+use Rattle.refusal.specs.Refusal.{Answered, checked, NoneBroken, none, also}
 use Rattle.refusal.specs.TableRules.{table_rules}
 use Rattle.refusal.proofs.RefusalLaws.{none_broken_answered}
 use Rattle.refusal.proofs.TableChecked.{kept_inputs}
@@ -25,8 +25,8 @@ decided_table t = run_table call_budget (fresh t) ∙ fresh_table t
 
 module _ (t : Table) (kept : NoneBroken (table_rules t [])) where
   -- the table is taken
-  pub decided_answered : decided_job t ≡ answered (decided t)
-  decided_answered = none_broken_answered (table_rules t []) (answered (decided t)) kept
+  pub decided_answered : decided_job t ≡ Ok (decided t)
+  decided_answered = none_broken_answered (table_rules t []) (Ok (decided t)) kept
 
   kept_rules : NoneBroken (job_rules (fresh t) (budget_range call_budget ∷ []))
   kept_rules = job_all_kept (fresh t) (rw (fresh_table t) kept) ((is_sound_correct (fresh t)).1 (fresh_sound t (kept_inputs t kept))) (also refl none)
@@ -39,14 +39,14 @@ module _ (t : Table) (kept : NoneBroken (table_rules t [])) where
       ∙ sym decided_answered
     where
       below : Answered Job
-      below = checked (past_cap (fresh t) call_budget ∷ []) (answered (decided t))
+      below = checked (past_cap (fresh t) call_budget ∷ []) (Ok (decided t))
 
       later : Answered Job
-      later = if_open (fresh t).state.stage below (answered (fresh t))
+      later = if_open (fresh t).state.stage below (Ok (fresh t))
 
-      by : Dec ((fresh t).state.stage ≡ Open) → later ≡ answered (decided t)
+      by : Dec ((fresh t).state.stage ≡ Open) → later ≡ Ok (decided t)
       by (yes e) = rw (e, le-ltb cap ((fresh t).state.k + call_budget) (omega (arith, fresh_k t)))
-      by (no e) = sym (if_open_ended (fresh t).state.stage below (answered (fresh t)) e) ∙ ap answered (sym (run_ended call_budget (fresh t) e))
+      by (no e) = sym (if_open_ended (fresh t).state.stage below (Ok (fresh t)) e) ∙ ap Ok (sym (run_ended call_budget (fresh t) e))
 
   -- its K is at most the cap
   pub decided_capped : (decided t).state.k ≤ cap

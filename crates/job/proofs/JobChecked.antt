@@ -1,14 +1,11 @@
 -- What the test of a job (`job_status`) says of every call's rules, which begin with the job's: callers cite these laws and not the rules'
 -- text. Assumes nothing.
-use Rattle.std.specs.Prelude.{◌≡◌, ℕ, ◌≤◌, true, not, ◌≢◌, List, [], ◌∷◌}
-use mathlib.Core.Path.{refl, sym, ◌∙◌, ap}
+use Rattle.std.specs.Prelude.{◌≡◌, ◌≤◌, true, not, ◌≢◌, List, [], ◌∷◌, Ok, Err}
+use mathlib.Core.Path.{refl, ap}
 use borrow.Author.Tests.{not-false}
-use Rattle.refusal.specs.declared.refusal.Status.{Status}
-use Rattle.refusal.specs.declared.refusal.Status.TheVariants as Status'
-use Rattle.refusal.specs.Answers.{status}
-use Rattle.refusal.specs.Refusal.{Rule, Answered, refused, checked, NoneBroken, also}
-use Rattle.refusal.proofs.RefusalLaws.{refused_first_broken, first_broken_refused, none_broken_answered}
-use Rattle.refusal.proofs.StatusLaws.{status_refused, done_none_broken}
+use Rattle.types.specs.declared.refusal.Refusal.{Refusal}
+use Rattle.refusal.specs.Refusal.{Rule, Answered, checked, NoneBroken, also}
+use Rattle.refusal.proofs.StatusLaws.{rules_refused, rules_kept, rules_passed}
 use Rattle.refusal.proofs.TableChecked.{kept_inputs, others_kept, all_kept}
 use Rattle.job.specs.declared.job.Job.{Job}
 use Rattle.types.specs.declared.stage.Stage.{Stage}
@@ -34,27 +31,22 @@ pub job_all_kept : (j : Job) {others : List Rule} → NoneBroken (table_rules j.
 job_all_kept j taken sound rest = all_kept j.table taken (also (ap not sound) rest)
 
 -- s is what `job_status` returned for the job j
-module _ {s : Status} (j : Job) (says : s ≡ status (job_checked j)) where
-  -- a job that is refused is refused with its number by every call that begins with the job's rules
-  pub job_refused : {A : Type 0} (others : List Rule) (next : Answered A) {n : ℕ} → s ≡ Status'.Refused n → refused n ≡ checked (job_rules j others) next
-  job_refused others next {n} e =
-      let first = refused_first_broken (job_rules j []) tt n (status_refused (job_checked j) (sym says ∙ e)) in
-      sym (first_broken_refused (job_rules j []) (checked others next) n first)
-
-  taken : s ≡ Status'.Done → NoneBroken (job_rules j [])
-  taken e = done_none_broken (job_rules j []) (sym says ∙ e)
+module _ {s : Answered (Unit {0})} (j : Job) (says : s ≡ job_checked j) where
+  -- a job that is refused is refused with its refusal by every call that begins with the job's rules
+  pub job_refused : {A : Type 0} (others : List Rule) (next : Answered A) {n : Refusal} → s ≡ Err n → Err n ≡ checked (job_rules j others) next
+  job_refused others next e = rules_refused (job_rules j []) says (checked others next) e
 
   -- a job that is taken leaves the call to its other rules
-  pub job_passed : {A : Type 0} (others : List Rule) (next : Answered A) → s ≡ Status'.Done → checked others next ≡ checked (job_rules j others) next
-  job_passed others next e = sym (none_broken_answered (job_rules j []) (checked others next) (taken e))
+  pub job_passed : {A : Type 0} (others : List Rule) (next : Answered A) → s ≡ Ok tt → checked others next ≡ checked (job_rules j others) next
+  job_passed others next e = rules_passed (job_rules j []) says (checked others next) e
 
   -- and has at most eight inputs
-  pub job_inputs : s ≡ Status'.Done → j.table.n ≤ 8
-  job_inputs e = kept_inputs j.table (taken e)
+  pub job_inputs : s ≡ Ok tt → j.table.n ≤ 8
+  job_inputs e = kept_inputs j.table (rules_kept (job_rules j []) says e)
 
   -- and is sound
-  pub job_sound : s ≡ Status'.Done → Sound j
-  job_sound e = kept_sound j (taken e)
+  pub job_sound : s ≡ Ok tt → Sound j
+  job_sound e = kept_sound j (rules_kept (job_rules j []) says e)
 
 -- of an ended job, the answer for those stands
 pub if_open_ended : (x : Stage) (opened ended : Answered Job) → x ≢ Open → ended ≡ if_open x opened ended

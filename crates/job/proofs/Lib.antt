@@ -8,3 +8,5 @@ pub mod Soundness
 pub mod JobChecked
 -- what is decided is one carry-on of the fresh job
 pub mod DecidedLaws
+-- what a carry-on gave says of the call
+pub mod CarriedLaws

@@ -1,15 +1,13 @@
 -- Laws of the stepping machine on a job: those of its state (`state`), and that the table stays. Assumes nothing.
-use Rattle.std.specs.Prelude.{◌≡◌, ℕ, suc, ◌+◌, ◌≢◌}
+use Rattle.std.specs.Prelude.{◌≡◌, ℕ, ◌+◌, ◌≢◌}
 use mathlib.Core.Path.{refl}
-use mathlib.Core.Option.{some}
 use Rattle.types.specs.declared.table.Table.{Table}
 use Rattle.types.specs.declared.stage.Stage.TheVariants.{Open}
-use Rattle.function.specs.Failing.{failing}
 use Rattle.state.proofs.MachineLaws as state
 use Rattle.job.specs.declared.job.Job.{Job}
-use Rattle.job.specs.Machine.{fresh, step, run}
+use Rattle.job.specs.Machine.{fresh, run}
 use Rattle.table.specs.Table.{function_of}
-pub use Rattle.state.proofs.MachineLaws.{found_ended, looped_ended, binate_ended, open_or_ended, open_stage, ended_stage}
+pub use Rattle.state.proofs.MachineLaws.{found_ended, looped_ended, binate_ended, open_or_ended, open_stage}
 
 -- ---- the fresh job
 
@@ -22,13 +20,6 @@ pub fresh_k : (t : Table) → (fresh t).state.k ≡ 0
 unfolding fresh
 fresh_k t = state.fresh_k (function_of t)
 
--- ---- a step
-
--- a step of an open job with a failing row adds 1 to K
-pub step_k : (j : Job) (r : ℕ) → j.state.stage ≡ Open → failing (function_of j.table) j.state.v ≡ some r → (step j).state.k ≡ j.state.k + 1
-unfolding step
-step_k j r s e = state.step_k (function_of j.table) j.state r s e
-
 -- ---- runs
 
 -- a run keeps the table
@@ -40,11 +31,6 @@ run_table m j = refl
 pub run_zero : (j : Job) → run 0 j ≡ j
 unfolding run
 run_zero j = λ i. record { table = j.table; state = state.run_zero (function_of j.table) j.state i }
-
--- so many steps, and then one more
-pub run_suc : (m : ℕ) (j : Job) → run (suc m) j ≡ step (run m j)
-unfolding run step
-run_suc m j = λ i. record { table = j.table; state = state.run_suc (function_of j.table) m j.state i }
 
 -- a run is a run after a run
 pub run_add : (m n : ℕ) (j : Job) → run (m + n) j ≡ run n (run m j)

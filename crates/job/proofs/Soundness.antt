@@ -1,4 +1,4 @@
--- The machine's jobs are sound, and K counts the steps, by the laws of the state. Assumes nothing.
+-- The machine's jobs are sound, and K never falls, by the laws of the state. Assumes nothing.
 use Rattle.std.specs.Prelude.{◌≡◌, ℕ, ◌+◌, ◌<◌, ◌≤◌}
 use Rattle.types.specs.declared.table.Table.{Table}
 use Rattle.types.specs.declared.stage.Stage.TheVariants.{Open}
@@ -33,22 +33,7 @@ pub run_sound : (t : Table) → t.n ≤ 8 → (m : ℕ) → m ≤ cap → Sound 
 unfolding run fresh
 run_sound t n m l = state.run_sound (function_of t) (table_fits t n) m l
 
--- ---- K counts the steps
-
 -- a run never lowers K
 pub run_grows : (j : Job) (m : ℕ) → j.state.k ≤ (run m j).state.k
 unfolding run
 run_grows j m = state.run_grows (function_of j.table) j.state m
-
--- an open job has a failing row to be corrected by
-abbrev pub Goes : Job → Type 0
-Goes j = state.Goes (function_of j.table) j.state
-
--- a sound job goes
-pub sound_goes : (j : Job) → Sound j → Goes j
-sound_goes j s = state.sound_goes (function_of j.table) j.state s
-
--- where the job is open after m steps, K has grown by m
-pub run_growth_open : (j : Job) → Goes j → (m : ℕ) → (run m j).state.stage ≡ Open → (run m j).state.k ≡ j.state.k + m
-unfolding run
-run_growth_open j g m e = state.run_growth_open (function_of j.table) j.state g m e

@@ -1,19 +1,18 @@
 -- The calls on a job: for each its rules in their order, and its answer (document 01, "The stepping machine" and "Who causes which
 -- number"). Definitions only. Assumes nothing.
-use Rattle.std.specs.Prelude.{ℕ, ◌+◌, ◌-◌, not, ◌||◌, List, [], ◌∷◌, replicate, pos, ◌==◌, nat_lt}
+use Rattle.types.specs.declared.refusal.Refusal.TheVariants as Refusal'
+use Rattle.std.specs.Prelude.{ℕ, ◌+◌, ◌-◌, not, ◌||◌, List, [], ◌∷◌, replicate, pos, ◌==◌, nat_lt, Ok, Err}
 use Rattle.types.specs.declared.table.Table.{Table}
 use Rattle.types.specs.declared.gate.Gate.{Gate}
 use Rattle.types.specs.declared.vector.Vector.{Vector}
 use Rattle.types.specs.declared.witness.Witness.{Witness}
-use Rattle.refusal.specs.Refusal.{Rule, rule, Answered, answered, refused, checked}
+use Rattle.refusal.specs.Refusal.{Rule, rule, Answered, checked}
 use Rattle.refusal.specs.TableRules.{table_rules}
-use Rattle.refusal.specs.declared.refusal.Status.TheVariants as Status'
 use Rattle.job.specs.declared.job.Job.{Job}
 use Rattle.types.specs.declared.stage.Stage.{Stage}
 use Rattle.types.specs.declared.stage.Stage.TheVariants.{Open, Found, Looped, Binate}
-use Rattle.job.specs.declared.job.Started.{Started}
 use Rattle.job.specs.declared.job.Carried.{Carried}
-use Rattle.job.specs.Machine.{run, fresh, decided, start_job}
+use Rattle.job.specs.Machine.{run, fresh, decided}
 use Rattle.function.specs.Witness.{zeros}
 pub use Rattle.state.specs.Machine.{call_budget, is_ended}
 use Rattle.job.specs.Sound.{cap, is_sound}
@@ -22,32 +21,27 @@ use Rattle.job.specs.Sound.{cap, is_sound}
 
 -- the fresh job of a table
 abbrev pub fresh_job : Table → Answered Job
-fresh_job t = checked (table_rules t []) (answered (fresh t))
-
--- the job and whether it was made; beside a refusal it is the table's with all numbers 0, open
-abbrev pub started : Table → Answered Job → Started
-started t (answered j) = record { status = Status'.Done; job = j }
-started t (refused n) = record { status = Status'.Refused n; job = start_job t zeros Open }
+fresh_job t = checked (table_rules t []) (Ok (fresh t))
 
 -- ---- decided: 2, 3, 16
 
 -- the job of a table after one carry-on of the whole call budget
 abbrev pub decided_job : Table → Answered Job
-decided_job t = checked (table_rules t []) (answered (decided t))
+decided_job t = checked (table_rules t []) (Ok (decided t))
 
 -- ---- carry-on: 2, 3, 16, 9, 10, the ended answer, 11
 
 -- 9: job not sound
 abbrev pub unsound : Job → Rule
-unsound j = rule 9 (not (is_sound j))
+unsound j = rule Refusal'.Unsound (not (is_sound j))
 
 -- 10: budget 0 or above 100,000
 abbrev pub budget_range : ℕ → Rule
-budget_range b = rule 10 (b == 0 || nat_lt call_budget b)
+budget_range b = rule Refusal'.Budget (b == 0 || nat_lt call_budget b)
 
 -- 11: K + budget above the cap
 abbrev pub past_cap : Job → ℕ → Rule
-past_cap j b = rule 11 (nat_lt cap (j.state.k + b))
+past_cap j b = rule Refusal'.Cap (nat_lt cap (j.state.k + b))
 
 -- the rules of a job, before the other rules of every call that takes one: 2, 3, 16, 9
 abbrev pub job_rules : Job → List Rule → List Rule
@@ -55,7 +49,7 @@ job_rules j others = table_rules j.table (unsound j ∷ others)
 
 -- the test of a job alone
 abbrev pub job_checked : Job → Answered (Unit {0})
-job_checked j = checked (job_rules j []) (answered tt)
+job_checked j = checked (job_rules j []) (Ok tt)
 
 -- by whether a job is open
 abbrev pub if_open : Stage → Answered Job → Answered Job → Answered Job
@@ -66,12 +60,12 @@ if_open Binate opened ended = ended
 
 -- an open job runs by its budget, or to its end; an ended one stays as it is, whatever the cap
 abbrev pub carry_on : Job → ℕ → Answered Job
-carry_on j b = checked (job_rules j (budget_range b ∷ [])) (if_open j.state.stage (checked (past_cap j b ∷ []) (answered (run b j))) (answered j))
+carry_on j b = checked (job_rules j (budget_range b ∷ [])) (if_open j.state.stage (checked (past_cap j b ∷ []) (Ok (run b j))) (Ok j))
 
--- the job after the call with the corrections made in it; beside a refusal the job as it came in, and 0
+-- the job after the call with the corrections made in it; with a refusal the job as it came in, and 0 (document 01, "Who causes which number")
 abbrev pub carried : Job → Answered Job → Carried
-carried j (answered next) = record { status = Status'.Done; job = next; made = next.state.k - j.state.k }
-carried j (refused n) = record { status = Status'.Refused n; job = j; made = 0 }
+carried j (Ok next) = record { status = Ok tt; job = next; made = next.state.k - j.state.k }
+carried j (Err e) = record { status = Err e; job = j; made = 0 }
 
 -- ---- what an ended job has
 
@@ -87,7 +81,7 @@ gate_of j = vector_gate j.table.n j.state.v
 abbrev pub witness_of : Job → Witness
 witness_of j = record { counts = j.state.counts }
 
--- what stands where there is no gate, and where there is no witness: zeros
+-- the gate and the witness all of whose numbers are 0
 abbrev pub no_gate : Gate
 no_gate = record { n = 0; weights = replicate 8 (pos 0); threshold = pos 0 }
 

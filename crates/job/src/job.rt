@@ -1,69 +1,70 @@
 // A job: the state of the stepping machine on one table, made fresh and carried on.
-ghost use Rattle.std.specs.Prelude.{◌≡◌};
-ghost use Rattle.refusal.specs.Answers.{status};
-ghost use Rattle.refusal.specs.Refusal.{refused};
-ghost use Rattle.job.specs.Calls.{job_checked, fresh_job, started, decided_job, carry_on, carried};
+ghost use Rattle.std.specs.Prelude.{◌≡◌, ◌≤◌, IfOk};
+ghost use Rattle.job.specs.Calls.{job_checked, fresh_job, decided_job, carry_on, carried};
 
 use correction::steps::step_table;
 use machine::core_state::core_of;
-use refusal::refusal::{Status, table_status};
+use refusal::refusal::table_status;
 use soundness::sound::{CAP, is_sound};
 use stepping::decided::{CALL_BUDGET, decided_alone};
-use stepping::start::{fresh_state, start_state};
+use stepping::start::fresh_state;
 use stepping::stepping::{is_ended, run};
-use types::stage::Stage;
+use types::refusal::Refusal;
 use types::state::State;
 use types::table::Table;
 
 // A table with the state of the machine on it.
-#[derive(Clone, Copy)]
+#[derive(Clone, Copy, PartialEq, Eq)]
 pub struct Job {
     pub table: Table,
     pub state: State,
 }
 
-// What making a job gives.
-#[derive(Clone, Copy)]
-pub struct Started {
-    pub status: Status,
-    pub job: Job,
-}
-
-// What carrying a job on gives: the job after the call, and the corrections made in it.
+// What carrying a job on gives: whether the call was accepted, the job after it, and the corrections made in it. Kept a struct and not a
+// `Result`: document 01 has a refused carry-on hand back the job as it came in, and 0 corrections (`carried`).
 #[derive(Clone, Copy)]
 pub struct Carried {
-    pub status: Status,
+    pub status: Result<(), Refusal>,
     pub job: Job,
     pub made: u32,
 }
 
-// Returns the answer for a table that is refused: the job with all numbers 0.
-fn not_started(table: Table, number: u8) -> Started
-    ensures { result ≡ started table (refused number) }
+// Returns whether the job can be taken by a call, or its refusal: 2, 3, 16, 9.
+pub fn job_status(job: Job) -> Result<(), Refusal>
+    ensures { result ≡ job_checked job }
 {
-    Started {
-        status: Status::Refused(number),
-        job: Job {
-            table,
-            state: start_state([0u32; 256], Stage::Open),
-        },
+    table_status(job.table)?;
+    let state = job.state;
+    if !is_sound(job.table, core_of(state), &state.counts) {
+        return Err(Refusal::Unsound);
     }
+    Ok(())
 }
 
-// Returns whether the job can be taken by a call, or its refusal: 2, 3, 16, 9.
-pub fn job_status(job: Job) -> Status
-    ensures { result ≡ status (job_checked job) }
+// Returns the job after a budget of corrections, or at its end. Refusals: 2, 3, 16, 9, 10, 11, which is asked of an open job alone.
+// K never falls.
+#[tactic(auto, using(crate::proofs::JobChecked::job_inputs, crate::proofs::JobChecked::job_sound, crate::proofs::Soundness::run_grows), unfolding(crate::specs::Machine::run))]
+fn advanced(job: Job, budget: u32) -> Result<Job, Refusal>
+    ensures value { result ≡ carry_on job budget }
+    ensures grows { IfOk result (λ next. job.state.k ≤ next.state.k) }
 {
-    let table = job.table;
-    let status = table_status(table);
-    if let Status::Refused(number) = status {
-        return Status::Refused(number);
+    job_status(job)?;
+    if budget == 0 || Job::CALL_BUDGET < budget {
+        return Err(Refusal::Budget);
     }
     let state = job.state;
-    if !is_sound(table, core_of(state), &state.counts) {
-        return Status::Refused(9);
+    if is_ended(state.stage) {
+        return Ok(job);
     }
-    Status::Done
+    if Job::CAP - budget < state.k {
+        return Err(Refusal::Cap);
+    }
+    let table = job.table;
+    let steps = step_table();
+    Ok(Job {
+        table,
+        state: run(table, state, budget, &steps),
+    })
 }
 
 impl Job {
@@ -75,37 +76,27 @@ impl Job {
 
     // Returns the fresh job of a table: open; found, where no row is cared for; or binate with the counts that
     // show it. Refusals: 2, 3, 16.
-    pub fn fresh(table: Table) -> Started
-        ensures { result ≡ started table (fresh_job table) }
+    #[tactic(auto, unfolding(crate::specs::Machine::fresh))]
+    pub fn fresh(table: Table) -> Result<Job, Refusal>
+        ensures { result ≡ fresh_job table }
     {
-        let status = table_status(table);
-        if let Status::Refused(number) = status {
-            return not_started(table, number);
-        }
-        Started {
-            status: Status::Done,
-            job: Job {
-                table,
-                state: fresh_state(table),
-            },
-        }
+        table_status(table)?;
+        Ok(Job {
+            table,
+            state: fresh_state(table),
+        })
     }
 
     // Returns the job of a table after one carry-on of the whole call budget from its fresh job. Refusals: 2, 3, 16.
-    pub fn decided(table: Table) -> Started
-        ensures { result ≡ started table (decided_job table) }
+    #[tactic(auto, unfolding(crate::specs::Machine::fresh, crate::specs::Machine::run))]
+    pub fn decided(table: Table) -> Result<Job, Refusal>
+        ensures { result ≡ decided_job table }
     {
-        let status = table_status(table);
-        if let Status::Refused(number) = status {
-            return not_started(table, number);
-        }
-        Started {
-            status: Status::Done,
-            job: Job {
-                table,
-                state: decided_alone(table),
-            },
-        }
+        table_status(table)?;
+        Ok(Job {
+            table,
+            state: decided_alone(table),
+        })
     }
 
     // Carries the job on by a budget of corrections, or to its end. Refusals: 2, 3, 16, 9, 10, 11; the job is then as it came in. An
@@ -113,47 +104,17 @@ impl Job {
     pub fn carry_on(self, budget: u32) -> Carried
         ensures { result ≡ carried self (carry_on self budget) }
     {
-        let status = job_status(self);
-        if let Status::Refused(number) = status {
-            return refused(self, number);
-        }
-        if budget == 0 || Job::CALL_BUDGET < budget {
-            return refused(self, 10);
-        }
-        let state = self.state;
-        let stage = state.stage;
-        if is_ended(stage) {
-            return Carried {
-                status: Status::Done,
+        match advanced(self, budget) {
+            Ok(next) => Carried {
+                status: Ok(()),
+                job: next,
+                made: next.state.k - self.state.k,
+            },
+            Err(refusal) => Carried {
+                status: Err(refusal),
                 job: self,
                 made: 0,
-            };
+            },
         }
-        if Job::CAP - budget < state.k {
-            return refused(self, 11);
-        }
-        let table = self.table;
-        let steps = step_table();
-        let next = Job {
-            table,
-            state: run(table, state, budget, &steps),
-        };
-        let made = next.state.k - state.k;
-        Carried {
-            status: Status::Done,
-            job: next,
-            made,
-        }
-    }
-}
-
-// Returns the answer of a refusal: the job as it came in.
-fn refused(job: Job, number: u8) -> Carried
-    ensures { result ≡ carried job (refused number) }
-{
-    Carried {
-        status: Status::Refused(number),
-        job,
-        made: 0,
     }
 }

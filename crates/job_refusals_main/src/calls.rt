@@ -1,14 +1,15 @@
 // What the calls say of a table or of a job.
 use crate::print;
-use job::job::{Carried, Job, Started, job_status};
+use job::job::{Carried, Job, job_status};
 use papers::show;
-use refusal::refusal::Status;
-use rowwise::witness::same_counts;
 use std::io;
 use testing::compare::{is_gate_of, same_job, same_table};
+use testing::make;
+use types::gate::Gate;
+use types::refusal::Refusal;
 use types::table::Table;
 use types::vector::Vector;
-use view::shown::{Shown, row_fails};
+use view::shown::{Verdict, row_fails};
 
 // Prints the fresh job of a table.
 pub fn on_table(rt: &impl Print, table: Table) -> io::Result<()> {
@@ -22,11 +23,10 @@ pub fn on_decided(rt: &impl Print, table: Table) -> io::Result<()> {
     started(rt, table, Job::decided(table))
 }
 
-// Prints what making a job of a table gave.
-fn started(rt: &impl Print, table: Table, started: Started) -> io::Result<()> {
-    let status = started.status;
-    let job = started.job;
-    print::status(rt, status)?;
+// Prints what making a job of a table gave; beside a refusal the table's job with all numbers 0.
+fn started(rt: &impl Print, table: Table, started: Result<Job, Refusal>) -> io::Result<()> {
+    let job = started.unwrap_or(make::no_job(table));
+    show::status(rt, started.and(Ok(())))?;
     print::job(rt, job)?;
     print::kept(rt, b" table", same_table(job.table, table))
 }
@@ -34,7 +34,7 @@ fn started(rt: &impl Print, table: Table, started: Started) -> io::Result<()> {
 // Prints what each call says of a job, asked for a row and carried on by a budget.
 pub fn on_job(rt: &impl Print, job: Job, row: usize, budget: u32) -> io::Result<()> {
     show::word(rt, b": job_status")?;
-    print::status(rt, job_status(job))?;
+    show::status(rt, job_status(job))?;
     show::word(rt, b" row_fails")?;
     show::answer(rt, row_fails(job, row))?;
     show::word(rt, b" show")?;
@@ -43,41 +43,55 @@ pub fn on_job(rt: &impl Print, job: Job, row: usize, budget: u32) -> io::Result<
     carried(rt, job, job.carry_on(budget))
 }
 
-// Prints the verdict, then whether the gate is all 0 or the job's v, and whether the witness is all 0 or the job's counts.
-fn shown(rt: &impl Print, job: Job, shown: Shown) -> io::Result<()> {
-    let verdict = shown.verdict;
-    print::verdict(rt, verdict)?;
+// Prints the verdict, then of its gate whether it is all 0 or the job's v, or of its witness whether it is all 0 or the job's counts; none of what it
+// has not.
+fn shown(rt: &impl Print, job: Job, shown: Result<Verdict, Refusal>) -> io::Result<()> {
+    match shown {
+        Ok(Verdict::Gate(gate)) => {
+            show::word(rt, b" gate")?;
+            gate_part(rt, job, gate)?;
+            show::word(rt, b" none")
+        }
+        Ok(Verdict::Witness(witness)) => {
+            show::word(rt, b" witness none")?;
+            let counts = witness.counts;
+            print::part(
+                rt,
+                b" counts",
+                counts == [0u32; 256],
+                counts == job.state.counts,
+            )
+        }
+        Ok(Verdict::Open) => show::word(rt, b" open none none"),
+        Err(refusal) => {
+            show::number(rt, refusal.number() as u64)?;
+            show::word(rt, b" none none")
+        }
+    }
+}
+
+// Prints whether a gate is all 0 or the job's v.
+fn gate_part(rt: &impl Print, job: Job, gate: Gate) -> io::Result<()> {
     let zero = Vector { a: [0i32; 8], b: 0 };
-    let gate = shown.gate;
     print::part(
         rt,
         b" v",
         is_gate_of(gate, 0, zero),
         is_gate_of(gate, job.table.n, job.state.v),
-    )?;
-    let witness = shown.witness;
-    let shown_counts = witness.counts;
-    let counts = job.state.counts;
-    print::part(
-        rt,
-        b" counts",
-        same_counts(&shown_counts, &[0u32; 256]),
-        same_counts(&shown_counts, &counts),
     )
 }
 
 // Prints the corrections made and the job after the call; of a refusal, whether the job is as it came in.
 fn carried(rt: &impl Print, job: Job, carried: Carried) -> io::Result<()> {
-    let status = carried.status;
-    print::status(rt, status)?;
+    show::status(rt, carried.status)?;
     show::word(rt, b" made")?;
     show::number(rt, carried.made as u64)?;
     let next = carried.job;
-    match status {
-        Status::Done => {
+    match carried.status {
+        Ok(()) => {
             print::job(rt, next)?;
             print::kept(rt, b" table", same_table(next.table, job.table))
         }
-        Status::Refused(_) => print::kept(rt, b"", same_job(next, job)),
+        Err(_) => print::kept(rt, b"", same_job(next, job)),
     }
 }

@@ -1,29 +1,9 @@
 // The parts of an answer on standard output.
 use job::job::Job;
 use papers::show;
-use refusal::refusal::Status;
 use std::io;
 use testing::stage;
 use types::vector::Vector;
-use view::shown::Verdict;
-
-// Writes done or a refusal's number.
-pub fn status(rt: &impl Print, status: Status) -> io::Result<()> {
-    match status {
-        Status::Done => show::word(rt, b" done"),
-        Status::Refused(number) => show::number(rt, number as u64),
-    }
-}
-
-// Writes the verdict or a refusal's number.
-pub fn verdict(rt: &impl Print, verdict: Verdict) -> io::Result<()> {
-    match verdict {
-        Verdict::Gate => show::word(rt, b" gate"),
-        Verdict::Witness => show::word(rt, b" witness"),
-        Verdict::Open => show::word(rt, b" open"),
-        Verdict::Refused(number) => show::number(rt, number as u64),
-    }
-}
 
 // Writes none for what is all 0, the part's name for what is the job's, else other.
 pub fn part(rt: &impl Print, name: &[u8], is_zero: bool, is_own: bool) -> io::Result<()> {
@@ -52,10 +32,8 @@ pub fn job(rt: &impl Print, job: Job) -> io::Result<()> {
     numbers(rt, state.k, state.mark)?;
     vectors(rt, state.v, state.s, job.table.n as usize)?;
     show::word(rt, b" counts")?;
-    let counts = state.counts;
-    pairs(rt, counts)?;
-    let stage = state.stage;
-    stage::show(rt, stage)
+    pairs(rt, state.counts)?;
+    stage::show(rt, state.stage)
 }
 
 // Writes K and M.

@@ -5,10 +5,10 @@ ghost use Rattle.std.specs.Prelude.{◌≤◌};
 use cell::checker::{check_gate, check_witness};
 use job::job::{Carried, Job};
 use papers::show;
-use refusal::refusal::{Answer, Status};
 use std::io;
 use testing::compare::same_job;
 use types::gate::Gate;
+use types::refusal::Refusal;
 use types::table::Table;
 use types::witness::Witness;
 use view::shown::{Verdict, row_fails};
@@ -17,8 +17,7 @@ use view::shown::{Verdict, row_fails};
 pub fn show_call(rt: &impl Print, carried: Carried) -> io::Result<u8> {
     let job = carried.job;
     let letter = show_verdict(rt, job)?;
-    let status = carried.status;
-    show_made(rt, status, carried.made)?;
+    show_made(rt, carried.status, carried.made)?;
     show::word(rt, b" fails")?;
     show::number(rt, failing_rows(job))?;
     if letter != b'S' {
@@ -29,27 +28,25 @@ pub fn show_call(rt: &impl Print, carried: Carried) -> io::Result<u8> {
 
 // Prints the verdict's letter, K and the gate or witness with what the checker says of it; returns the letter.
 fn show_verdict(rt: &impl Print, job: Job) -> io::Result<u8> {
-    let shown = view::shown::show(job);
     let table = job.table;
     let k = job.state.k as u64;
-    let verdict = shown.verdict;
-    match verdict {
-        Verdict::Gate => {
-            show_gate(rt, table, k, shown.gate)?;
+    match view::shown::show(job) {
+        Ok(Verdict::Gate(gate)) => {
+            show_gate(rt, table, k, gate)?;
             Ok(b'G')
         }
-        Verdict::Witness => {
-            show_witness(rt, table, k, shown.witness)?;
+        Ok(Verdict::Witness(witness)) => {
+            show_witness(rt, table, k, witness)?;
             Ok(b'N')
         }
-        Verdict::Open => {
+        Ok(Verdict::Open) => {
             show::word(rt, b" S")?;
             show::number(rt, k)?;
             Ok(b'S')
         }
-        Verdict::Refused(by) => {
+        Err(refusal) => {
             show::word(rt, b" R")?;
-            show::number(rt, by as u64)?;
+            show::number(rt, refusal.number() as u64)?;
             Ok(b'R')
         }
     }
@@ -59,8 +56,7 @@ fn show_verdict(rt: &impl Print, job: Job) -> io::Result<u8> {
 fn show_gate(rt: &impl Print, table: Table, k: u64, gate: Gate) -> io::Result<()> {
     show::word(rt, b" G")?;
     show::number(rt, k)?;
-    let weights = gate.weights;
-    show_weights(rt, weights, gate.n as usize)?;
+    show_weights(rt, gate.weights, gate.n as usize)?;
     show::signed(rt, gate.threshold)?;
     show::answer(rt, check_gate(table, gate))
 }
@@ -77,8 +73,7 @@ fn show_weights(rt: &impl Print, weights: [i32; 8], n: usize) -> io::Result<()> 
 fn show_witness(rt: &impl Print, table: Table, k: u64, witness: Witness) -> io::Result<()> {
     show::word(rt, b" N")?;
     show::number(rt, k)?;
-    let counts = witness.counts;
-    show_counts(rt, counts)?;
+    show_counts(rt, witness.counts)?;
     show::answer(rt, check_witness(table, witness))
 }
 
@@ -93,28 +88,24 @@ fn show_counts(rt: &impl Print, counts: [u32; 256]) -> io::Result<()> {
 }
 
 // Prints the corrections made, or the number of a refusal.
-fn show_made(rt: &impl Print, status: Status, made: u32) -> io::Result<()> {
+fn show_made(rt: &impl Print, status: Result<(), Refusal>, made: u32) -> io::Result<()> {
     match status {
-        Status::Done => {
+        Ok(()) => {
             show::word(rt, b" made")?;
             show::number(rt, made as u64)
         }
-        Status::Refused(by) => {
+        Err(refusal) => {
             show::word(rt, b" refused")?;
-            show::number(rt, by as u64)
+            show::number(rt, refusal.number() as u64)
         }
     }
 }
 
 // Returns 1 for yes, else 0.
-fn count_yes(answer: Answer) -> u64
+fn count_yes(answer: Result<bool, Refusal>) -> u64
     ensures { result ≤ 1 }
 {
-    match answer {
-        Answer::Yes => 1,
-        Answer::No => 0,
-        Answer::Refused(_) => 0,
-    }
+    answer.unwrap_or(false) as u64
 }
 
 // Returns the number of rows that fail in the job.

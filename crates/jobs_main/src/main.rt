@@ -42,6 +42,7 @@ fn run(rt: &impl Print, lines: &[u8]) -> io::Result<()>
     let mut given_up: u64 = 0;
     let mut gates_k: u64 = 0;
     let mut at: usize = 0;
+    // kept: the sums are bounded by the position, which `split_inclusive` does not show
     while at < lines.len() {
         let end = line_end(lines, at);
         let outcome = paper_function::run(rt, &lines[at..end])?;

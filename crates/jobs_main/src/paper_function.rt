@@ -6,6 +6,7 @@ use papers::line::table_of;
 use papers::show;
 use papers::text::word;
 use std::io;
+use testing::make;
 
 // The verdict's letter after one call (G a gate, N a witness, S given up so far), and K.
 #[derive(Clone, Copy)]
@@ -19,8 +20,7 @@ pub fn run(rt: &impl Print, line: &[u8]) -> io::Result<Outcome> {
     let table = table_of(line);
     show::word(rt, word(line, 0))?;
     show::number(rt, table.n as u64)?;
-    let started = Job::fresh(table);
-    let fresh = started.job;
+    let fresh = Job::fresh(table).unwrap_or(make::no_job(table));
     let carried = fresh.carry_on(Job::CALL_BUDGET);
     let job = carried.job;
     let letter = show_call(rt, carried)?;

@@ -3,7 +3,8 @@ use job::job::Job;
 use papers::show;
 use std::io;
 use testing::compare::same_job;
-use testing::stage::letter;
+use testing::make;
+use types::stage::Stage;
 use types::table::Table;
 
 // The most calls: with budgets 1 to 400 they make up to 80,200 corrections.
@@ -18,22 +19,20 @@ struct Calls {
 
 // Whether the job is open.
 fn is_open(job: Job) -> bool {
-    let state = job.state;
-    let stage = state.stage;
-    letter(stage) == b'O'
+    job.state.stage == Stage::Open
 }
 
 // Makes calls with budgets 1, 2, 3 and so on, until the job ends or the most calls are made.
 fn small_calls(table: Table) -> Calls {
-    let started = Job::fresh(table);
-    let mut job = started.job;
+    let mut job = Job::fresh(table).unwrap_or(make::no_job(table));
     let mut made: u64 = 0;
-    let mut budget: u32 = 1;
-    while budget <= CALLS && is_open(job) {
+    for budget in 1..CALLS + 1 {
+        if !is_open(job) {
+            break;
+        }
         let carried = job.carry_on(budget);
         job = carried.job;
         made = made + carried.made as u64;
-        budget = budget + 1;
     }
     Calls { job, made }
 }
@@ -41,8 +40,7 @@ fn small_calls(table: Table) -> Calls {
 // Prints whether small calls bring the table's job to the same end with as many corrections, or that they leave it open.
 pub fn show_split(rt: &impl Print, job: Job) -> io::Result<()> {
     show::word(rt, b" split")?;
-    let table = job.table;
-    let calls = small_calls(table);
+    let calls = small_calls(job.table);
     let end = calls.job;
     if is_open(end) {
         show::word(rt, b" open")

@@ -57,6 +57,10 @@ less_twice z = omega (integers, parts_sub (pos 0) (pos 0 -ℤ z), parts_sub (pos
 pub sums_threshold : (v : Vector) → v.b ≡ pos 0 -ℤ get_or (vector_sums v) 0 (pos 0)
 sums_threshold v = rw (sums_low v 0 (omega arith), distance_zero v.a v.b) (sym (less_twice v.b))
 
+-- there are at most eight blocks
+pub blocks_le : (n : ℕ) → n ≤ 8 → blocks_of n ≤ 8
+blocks_le n h = pow_mono {i = n - 5} {j = 3} (omega arith)
+
 -- ---- sums that agree
 
 module _ (v s : Vector) (k n : ℕ) (eight : length v.a ≡ 8) (eight-s : length s.a ≡ 8)

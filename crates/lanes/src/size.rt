@@ -19,12 +19,9 @@ pub fn is_small(v: Vector) -> bool
     requires { in_range weight_limit 8 v.a v.b ≡ true }
     ensures { result ≡ leb (magnitude v) 9000 }
 {
-    let a = v.a;
     let mut sum = absolute(v.b);
-    let mut place: usize = 0;
-    while place < 8 {
-        sum = sum + absolute(a[place]);
-        place = place + 1;
+    for weight in &v.a {
+        sum += absolute(*weight);
     }
     sum <= 9000
 }

@@ -13,11 +13,8 @@ fn double(sums: &mut [i16; 40], from: usize, half: usize, weight: i16)
     requires sums_fit { (at : ℕ) → at < half → nat_abs (get_or sums.old (from + at) (pos 0) +ℤ weight) < 2 ^ 15 }
     ensures { Doubled from half half weight sums.old sums.new }
 {
-    let mut at: usize = 0;
-    while at < half {
-        let more = sums[from + at] + weight;
-        sums[from + half + at] = more;
-        at = at + 1;
+    for at in 0..half {
+        sums[from + half + at] = sums[from + at] + weight;
     }
 }
 
@@ -26,18 +23,14 @@ pub fn sums_of(v: Vector) -> [i16; 40]
     requires { (length v.a ≡ 8) × (magnitude v ≤ 16000) }
     ensures { result ≡ vector_sums v }
 {
-    let a = v.a;
     let mut sums = [0i16; 40];
-    let first = (0 - v.b) as i16;
-    sums[0] = first;
-    let mut place: usize = 0;
-    while place < 8 {
+    sums[0] = -v.b as i16;
+    for (place, weight) in v.a.iter().enumerate() {
         if place < 5 {
-            double(&mut sums, 0, 1usize << place, a[place] as i16);
+            double(&mut sums, 0, 1 << place, *weight as i16);
         } else {
-            double(&mut sums, 32, 1usize << (place - 5), a[place] as i16);
+            double(&mut sums, 32, 1 << (place - 5), *weight as i16);
         }
-        place = place + 1;
     }
     sums
 }
@@ -48,9 +41,9 @@ fn weight_at(sums: &[i16; 40], place: usize) -> i32
     ensures { (v : Vector) → sums.now ≡ vector_sums v → result ≡ get_or v.a place (pos 0) }
 {
     if place < 5 {
-        sums[1usize << place] as i32 - sums[0] as i32
+        sums[1 << place] as i32 - sums[0] as i32
     } else {
-        sums[32 + (1usize << (place - 5))] as i32
+        sums[32 + (1 << (place - 5))] as i32
     }
 }
 
@@ -59,20 +52,18 @@ pub fn vector_of(sums: &[i16; 40]) -> Vector
     ensures { (v : Vector) → length v.a ≡ 8 → sums.now ≡ vector_sums v → result ≡ v }
 {
     let mut a = [0i32; 8];
-    let mut place: usize = 0;
-    while place < 8 {
-        let weight = weight_at(sums, place);
-        a[place] = weight;
-        place = place + 1;
+    for (place, weight) in a.iter_mut().enumerate() {
+        *weight = weight_at(sums, place);
     }
     Vector {
         a,
-        b: 0 - sums[0] as i32,
+        b: -(sums[0] as i32),
     }
 }
 
 // Whether two vectors of n inputs are equal, by their sums. The distance of row 31 has b and the weights of all five low inputs in it, so
-// most vectors that differ differ there: it is compared first, and the loop is seldom entered. The loop's first pair compares their b.
+// most vectors that differ differ there: it is compared first, and the rest is seldom looked at. The first of the rest compares their b.
+#[tactic(auto, using(crate::proofs::WeightLaws::blocks_le))]
 pub fn same_sums(x: &[i16; 40], y: &[i16; 40], n: u8) -> bool
     requires { n ≤ 8 }
     ensures { (k : ℕ) (v s : Vector) → length v.a ≡ 8 → length s.a ≡ 8 → in_range k n v.a v.b ≡ true → in_range k n s.a s.b ≡ true → x.now ≡ vector_sums v → y.now ≡ vector_sums s → result ≡ same_vector v s }
@@ -81,12 +72,5 @@ pub fn same_sums(x: &[i16; 40], y: &[i16; 40], n: u8) -> bool
         return false;
     }
     let count = 32 + block_count(n);
-    let mut at: usize = 0;
-    while at < count {
-        if x[at] != y[at] {
-            return false;
-        }
-        at = at + 1;
-    }
-    true
+    x[..count] == y[..count]
 }

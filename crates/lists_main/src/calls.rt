@@ -1,13 +1,13 @@
 // One call of a list, and what the calls have come to.
 use job::job::{Carried, Job};
 use receiving::record::read;
-use refusal::refusal::Status;
+use records::record::Record;
 use testing::compare::same_job;
 use testing::parts::{first_bytes, least};
 use testing::tally;
 use testing::tally::Tally;
-use types::kind::Kind;
-use writers::write::{Written, save};
+use types::refusal::Refusal;
+use writers::write::save;
 
 // The job after some calls, the sum of the budgets that were accepted and of the corrections that were reported, and the numbers that
 // each of the two calls gave.
@@ -40,18 +40,10 @@ pub fn none(job: Job) -> Calls {
 }
 
 // Returns the number of a refusal, or 0.
-fn number_of(status: Status) -> u8 {
+fn number_of(status: Result<(), Refusal>) -> u8 {
     match status {
-        Status::Done => 0,
-        Status::Refused(number) => number,
-    }
-}
-
-// Whether a read record is a job.
-fn is_job(kind: Kind) -> bool {
-    match kind {
-        Kind::Job => true,
-        _ => false,
+        Ok(()) => 0,
+        Err(refusal) => refusal.number(),
     }
 }
 
@@ -76,35 +68,36 @@ fn with_sums(calls: Calls, budget: u32, made: u32, number: u8) -> Calls {
 pub fn carry_on(calls: Calls, budget: u32) -> Calls {
     let before = calls.job;
     let carried = before.carry_on(budget);
-    let status = carried.status;
-    let number = number_of(status);
+    let number = number_of(carried.status);
     let mut next = with_sums(calls, budget, carried.made, number);
-    let job = carried.job;
-    next.job = job;
+    next.job = carried.job;
     next.carried = tally::count(next.carried, number, is_right(before, carried, number));
     next
 }
 
-// Reads a job back.
-fn read_back(bytes: &[u8]) -> Saved {
-    let record = read(bytes);
-    let kind = record.kind;
-    let job = record.job;
-    Saved {
-        number: 0,
-        job,
-        is_read: is_job(kind),
+// Reads a job back; of what is no job nothing is right.
+fn read_back(bytes: &[u8], before: Job) -> Saved {
+    match read(bytes) {
+        Ok(Record::Job(job)) => Saved {
+            number: 0,
+            job,
+            is_read: true,
+        },
+        _ => Saved {
+            number: 0,
+            job: before,
+            is_read: false,
+        },
     }
 }
 
 // Saves a job into the first bytes of a buffer and, unless that is refused, reads the bytes that were written.
 fn save_back(job: Job, out: &mut [u8], room: usize) -> Saved {
     let end = least(room, out.len());
-    let written = save(job, &mut out[0..end]);
-    match written {
-        Written::Bytes(length) => read_back(first_bytes(out, length)),
-        Written::Refused(number) => Saved {
-            number,
+    match save(job, &mut out[0..end]) {
+        Ok(length) => read_back(first_bytes(out, length), job),
+        Err(refusal) => Saved {
+            number: refusal.number(),
             job,
             is_read: true,
         },

@@ -21,8 +21,8 @@ fn after(state: u64) -> u64 {
 // Returns the job that a list starts with.
 fn start(line: &[u8]) -> Job {
     if first(word(line, 3)) == b'N' {
-        let started = Job::fresh(table_of(line));
-        return started.job;
+        let table = table_of(line);
+        return Job::fresh(table).unwrap_or(make::no_job(table));
     }
     make::job(line)
 }
@@ -75,14 +75,10 @@ fn calls_on(job: Job, line: &[u8]) -> Calls {
 fn unbroken(job: Job, budgets: u64) -> Job {
     let most = Job::CALL_BUDGET as u64;
     let mut next = job;
-    let mut left = budgets;
-    while most <= left {
-        let carried = next.carry_on(Job::CALL_BUDGET);
-        next = carried.job;
-        left = left - most;
+    for _ in 0..budgets / most {
+        next = next.carry_on(Job::CALL_BUDGET).job;
     }
-    let last = next.carry_on(left as u32);
-    last.job
+    next.carry_on((budgets % most) as u32).job
 }
 
 // Prints the sums of accepted budgets and of corrections, and K.
@@ -100,13 +96,11 @@ pub fn run(rt: &impl Print, line: &[u8]) -> io::Result<()> {
     let first_job = start(line);
     let calls = calls_on(first_job, line);
     let job = calls.job;
-    let state = job.state;
-    let stage = state.stage;
     show::word(rt, word(line, 0))?;
     tally::print(rt, b" carried", calls.carried)?;
     tally::print(rt, b" saved", calls.saved)?;
-    show_sums(rt, calls.budgets, calls.made, state.k)?;
-    stage::show(rt, stage)?;
+    show_sums(rt, calls.budgets, calls.made, job.state.k)?;
+    stage::show(rt, job.state.stage)?;
     show::same(rt, same_job(job, unbroken(first_job, calls.budgets)))?;
     show::word(rt, b"\n")
 }

@@ -6,16 +6,13 @@ mod calls;
 mod list;
 mod starts;
 
-use papers::line::line_end;
+use papers::line::text_of;
 use std::io;
 
 // Runs each line.
 fn run(rt: &impl Print, lines: &[u8]) -> io::Result<()> {
-    let mut at: usize = 0;
-    while at < lines.len() {
-        let end = line_end(lines, at);
-        list::run(rt, &lines[at..end])?;
-        at = end + 1;
+    for line in lines.split_inclusive(|byte| *byte == b'\n') {
+        list::run(rt, text_of(line))?;
     }
     Ok(())
 }

@@ -20,15 +20,12 @@ pub struct Core {
 pub fn core_of(state: State) -> Core
     ensures { state_of result state.counts ≡ state }
 {
-    let v = state.v;
-    let s = state.s;
-    let stage = state.stage;
     Core {
         k: state.k,
-        v,
+        v: state.v,
         mark: state.mark,
-        s,
-        stage,
+        s: state.s,
+        stage: state.stage,
     }
 }
 
@@ -37,11 +34,10 @@ pub fn core_with(core: Core, v: Vector, s: Vector, stage: Stage) -> Core
     ensures { result ≡ core_with core v s stage }
 {
     Core {
-        k: core.k,
         v,
-        mark: core.mark,
         s,
         stage,
+        ..core
     }
 }
 
@@ -49,15 +45,12 @@ pub fn core_with(core: Core, v: Vector, s: Vector, stage: Stage) -> Core
 pub fn state_of(core: Core, counts: [u32; 256]) -> State
     ensures { result ≡ state_of core counts }
 {
-    let v = core.v;
-    let s = core.s;
-    let stage = core.stage;
     State {
         k: core.k,
-        v,
+        v: core.v,
         mark: core.mark,
-        s,
+        s: core.s,
         counts,
-        stage,
+        stage: core.stage,
     }
 }

@@ -16,40 +16,27 @@ pub fn corrected_by(v: Vector, value: bool, row: usize) -> Vector
 {
     let step: i32 = if value { 1 } else { -1 };
     let mut next = v;
-    let mut place: usize = 0;
-    while place < 8 {
+    for (place, weight) in next.a.iter_mut().enumerate() {
         if (row >> place) % 2 == 1 {
-            next.a[place] = next.a[place] + step;
+            *weight += step;
         }
-        place = place + 1;
     }
-    next.b = next.b - step;
+    next.b -= step;
     next
 }
 
-// Whether two vectors are equal, b included.
+// Whether two vectors are equal, b included. Kept beside `==`: theorems speak of its definition.
 pub fn same_vector(v: Vector, s: Vector) -> bool
     ensures { result ≡ same_vector v s }
 {
-    if v.b != s.b {
-        return false;
-    }
-    let mut place: usize = 0;
-    while place < 8 {
-        if v.a[place] != s.a[place] {
-            return false;
-        }
-        place = place + 1;
-    }
-    true
+    v == s
 }
 
 // Whether the components of a vector are within ±k, and the places past n are 0.
 pub fn vector_within(v: Vector, n: u8, k: u32) -> bool
     ensures { result ≡ in_range k n v.a v.b }
 {
-    let a = v.a;
-    in_range(a, v.b, n, k)
+    in_range(v.a, v.b, n, k)
 }
 
 // Returns the gate of n inputs with the weights and T of a vector: weights ai, and T = b.

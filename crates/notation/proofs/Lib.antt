@@ -2,3 +2,5 @@
 pub mod HeightLaws
 -- the pairs of a witness's text, row by row
 pub mod PairTextLaws
+-- the weights of a gate
+pub mod WeightLaws

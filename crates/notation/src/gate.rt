@@ -10,12 +10,9 @@ use types::gate::Gate;
 fn size_of(gate: Gate) -> i64
     ensures { result ≡ size gate }
 {
-    let weights = gate.weights;
     let mut sum: i64 = 0;
-    let mut place: usize = 0;
-    while place < 8 {
-        sum = sum + weights[place] as i64;
-        place = place + 1;
+    for weight in &gate.weights {
+        sum += *weight as i64;
     }
     sum + gate.threshold as i64
 }
@@ -26,23 +23,21 @@ fn put_weights(out: &mut [u8], at: usize, weights: [i32; 8], n: u8) -> usize
     ensures { Put out.old at (weights_text weights n 0) out.new result }
 {
     let mut here = at;
-    let mut place: usize = 0;
-    while place < n as usize {
-        here = put_signed(out, here, weights[place] as i64);
-        place = place + 1;
+    for weight in &weights[..n as usize] {
+        here = put_signed(out, here, *weight as i64);
     }
     here
 }
 
 // Writes G, K, size, weights and T.
+#[tactic(auto, unfolding(crate::specs::GateText::gate_text))]
 pub fn put_gate(out: &mut [u8], at: usize, k: u32, gate: Gate) -> usize
     requires { (gate.n ≤ 8) × Room out.old at (gate_text k gate) }
     ensures { Put out.old at (gate_text k gate) out.new result }
 {
-    let weights = gate.weights;
     let mut here = put_letter(out, at, b'G');
     here = put_number(out, here, k as u64);
     here = put_signed(out, here, size_of(gate));
-    here = put_weights(out, here, weights, gate.n);
+    here = put_weights(out, here, gate.weights, gate.n);
     put_signed(out, here, gate.threshold as i64)
 }

@@ -14,14 +14,13 @@ use types::table::Table;
 
 // Returns what a row adds to the height: if it is true, its count × its true inputs, by the manual's page. The count is asked first, since most
 // rows have none and their values take longer to look up.
+#[tactic(auto, using(heights::proofs::PageLaws::page_entry, crate::proofs::HeightLaws::product_most))]
 fn height_term(values: &[u8; 32], heights: &[u8; 256], row: usize, count: u32) -> u64
     requires { (row < 256) × (heights.now ≡ manual_page) }
     ensures { (result ≡ only_if (bit_at values.now row) (count * true_inputs 8 row)) × (result ≤ 34359738360) }
 {
-    if count > 0 {
-        if row_bit(values, row) {
-            return count as u64 * heights[row] as u64;
-        }
+    if count > 0 && row_bit(values, row) {
+        return count as u64 * heights[row] as u64;
     }
     0
 }
@@ -32,13 +31,9 @@ fn height_of(table: Table, counts: &[u32; 256]) -> u64
     ensures { result ≡ height table counts.now }
 {
     let heights = page();
-    let values = table.bytes;
-    let rows = row_count(table.n);
     let mut sum: u64 = 0;
-    let mut row: usize = 0;
-    while row < rows {
-        sum = sum + height_term(&values, &heights, row, counts[row]);
-        row = row + 1;
+    for (row, count) in counts[..row_count(table.n)].iter().enumerate() {
+        sum += height_term(&table.bytes, &heights, row, *count);
     }
     sum
 }
@@ -62,15 +57,14 @@ fn put_pairs(out: &mut [u8], at: usize, counts: &[u32; 256], rows: usize) -> usi
     ensures { Put out.old at (pairs_text counts.now rows 0) out.new result }
 {
     let mut here = at;
-    let mut row: usize = 0;
-    while row < rows {
-        here = put_pair(out, here, row as u64, counts[row]);
-        row = row + 1;
+    for (row, count) in counts[..rows].iter().enumerate() {
+        here = put_pair(out, here, row as u64, *count);
     }
     here
 }
 
 // Writes N, K, height and pairs.
+#[tactic(auto, unfolding(crate::specs::WitnessText::witness_text))]
 pub fn put_witness(out: &mut [u8], at: usize, k: u32, table: Table, counts: &[u32; 256]) -> usize
     requires { (table.n ≤ 8) × Room out.old at (witness_text k table counts.now) }
     ensures { Put out.old at (witness_text k table counts.now) out.new result }

@@ -3,7 +3,7 @@
 use mathlib.Core.Path.{◌≡◌, refl, sym, ◌∙◌, ap, ap₂}
 use mathlib.Core.Bool.{Bool, true, false, cond}
 use mathlib.Core.Logic.{⊎_elim}
-use mathlib.Core.Option.{Option, some, none}
+use Rattle.std.specs.Prelude.{Option, Some, None}
 use Prim.Native.Nat.{ℕ, zero, suc, ◌+◌, ◌-◌, ◌<◌, ◌≤◌}
 use native.Mathlib.Nat.{eq-or-lt_of_le, add-zero, zero-add, add-suc, suc-add}
 use native.Mathlib.Omega.{arith}
@@ -18,13 +18,13 @@ pub record IsFirst (test : ℕ → Bool) (m r q : ℕ) : Type 0 where
 
 module _ (test : ℕ → Bool) where
   -- the search's clauses, by the test at its first number
-  first_here : (m r : ℕ) → test r ≡ true → first_from test (suc m) r ≡ some r
+  first_here : (m r : ℕ) → test r ≡ true → first_from test (suc m) r ≡ Some r
   unfolding first_from
-  first_here m r e = ap (λ (v : Bool). cond v (some r) (first_from test m (suc r))) e
+  first_here m r e = ap (λ (v : Bool). cond v (Some r) (first_from test m (suc r))) e
 
   first_later : (m r : ℕ) → test r ≡ false → first_from test (suc m) r ≡ first_from test m (suc r)
   unfolding first_from
-  first_later m r e = ap (λ (v : Bool). cond v (some r) (first_from test m (suc r))) e
+  first_later m r e = ap (λ (v : Bool). cond v (Some r) (first_from test m (suc r))) e
 
   -- a search that passed d numbers is a search from behind them
   pub first_skip : (d m r : ℕ) → ((q : ℕ) → r ≤ q → q < r + d → test q ≡ false) → first_from test (d + m) r ≡ first_from test m (r + d)
@@ -36,7 +36,7 @@ module _ (test : ℕ → Bool) where
       ∙ ap (first_from test m) (suc-add r d ∙ sym (add-suc r d))
 
   -- a number in range that passes, with none before it that does, is what is found
-  pub first_at : (m r q : ℕ) → IsFirst test m r q → first_from test m r ≡ some q
+  pub first_at : (m r q : ℕ) → IsFirst test m r q → first_from test m r ≡ Some q
   first_at m r q f =
       let d = q - r in
       let more = m - suc d in
@@ -48,7 +48,7 @@ module _ (test : ℕ → Bool) where
       ∙ first_here more q f.passes
 
   -- where no number in range passes, nothing is found
-  pub first_fails : (m r : ℕ) → ((q : ℕ) → r ≤ q → q < r + m → test q ≡ false) → first_from test m r ≡ none
+  pub first_fails : (m r : ℕ) → ((q : ℕ) → r ≤ q → q < r + m → test q ≡ false) → first_from test m r ≡ None
   unfolding first_from
   first_fails m r h = ap (λ (x : ℕ). first_from test x r) (sym (add-zero m)) ∙ first_skip m 0 r h
 
@@ -57,10 +57,10 @@ module _ (test : ℕ → Bool) where
   fails_from r q g l past = ⊎_elim (λ same. ap test (sym same) ∙ g) past (eq-or-lt_of_le l)
 
   some_by : (m r q : ℕ)
-      → (first_from test m (suc r) ≡ some q → IsFirst test m (suc r) q)
+      → (first_from test m (suc r) ≡ Some q → IsFirst test m (suc r) q)
       → (v : Bool)
       → test r ≡ v
-      → first_from test (suc m) r ≡ some q
+      → first_from test (suc m) r ≡ Some q
       → IsFirst test (suc m) r q
   some_by m r q later true g e =
       let same : r ≡ q = cc (first_here m r g) in
@@ -75,16 +75,16 @@ module _ (test : ℕ → Bool) where
       }
 
   -- what is found is in range and passes, and none before it does
-  pub first_some : (m r q : ℕ) → first_from test m r ≡ some q → IsFirst test m r q
+  pub first_some : (m r q : ℕ) → first_from test m r ≡ Some q → IsFirst test m r q
   unfolding first_from
   first_some zero r q e = let z : ◌≡◌ {A = ℕ} 0 1 = cc in absurd (omega arith)
   first_some (suc m) r q e = some_by m r q (first_some m (suc r) q) (test r) refl e
 
   none_by : (m r : ℕ)
-      → (first_from test m (suc r) ≡ none → (q : ℕ) → suc r ≤ q → q < suc r + m → test q ≡ false)
+      → (first_from test m (suc r) ≡ None → (q : ℕ) → suc r ≤ q → q < suc r + m → test q ≡ false)
       → (v : Bool)
       → test r ≡ v
-      → first_from test (suc m) r ≡ none
+      → first_from test (suc m) r ≡ None
       → (q : ℕ)
       → r ≤ q
       → q < r + suc m
@@ -93,7 +93,7 @@ module _ (test : ℕ → Bool) where
   none_by m r later false g e q l k = fails_from r q g l (λ past. later (sym (first_later m r g) ∙ e) q past (omega arith))
 
   -- where nothing is found, no number in range passes
-  pub first_none : (m r : ℕ) → first_from test m r ≡ none → (q : ℕ) → r ≤ q → q < r + m → test q ≡ false
+  pub first_none : (m r : ℕ) → first_from test m r ≡ None → (q : ℕ) → r ≤ q → q < r + m → test q ≡ false
   first_none zero r e q l k = absurd (omega arith)
   first_none (suc m) r e q l k = none_by m r (first_none m (suc r)) (test r) refl e q l k
 
@@ -102,4 +102,4 @@ pub first_cong : (f g : ℕ → Bool) (m r : ℕ) → ((q : ℕ) → f q ≡ g q
 unfolding first_from
 first_cong f g zero r h = refl
 first_cong f g (suc m) r h =
-    ap₂ (λ (b : Bool) (later : Option ℕ). cond b (some r) later) (h r) (first_cong f g m (suc r) h)
+    ap₂ (λ (b : Bool) (later : Option ℕ). cond b (Some r) later) (h r) (first_cong f g m (suc r) h)

@@ -1,7 +1,6 @@
 -- Tests that compute, of numbers and of lists, which the other definitions are made of. Definitions only; their laws stand in proofs/.
 -- Assumes nothing.
-use Rattle.std.specs.Prelude.{Bool, true, false, not, cond, ◌&&◌, List, [], ◌∷◌, ℕ, zero, suc, leb, ℤ}
-use Rattle.std.proofs.Math.Option.{Option, some, none}
+use Rattle.std.specs.Prelude.{Bool, true, false, not, cond, ◌&&◌, List, [], ◌∷◌, ℕ, zero, suc, leb, ℤ, Option, Some, None}
 use Rattle.std.specs.Int.Signed.{le_z}
 
 -- whether two tests agree
@@ -24,9 +23,5 @@ all_below (suc m) test = all_below m test && test m
 
 -- the lowest of the m numbers from r on that passes the test
 unfoldable pub first_from : (ℕ → Bool) → ℕ → ℕ → Option ℕ
-first_from test zero r = none
-first_from test (suc m) r = let later = first_from test m (suc r) in cond (test r) (some r) later
-
-abbrev pub is_some : Option ℕ → Bool
-is_some none = false
-is_some (some r) = true
+first_from test zero r = None
+first_from test (suc m) r = let later = first_from test m (suc r) in cond (test r) (Some r) later

@@ -1,5 +1,6 @@
 -- Weights read place by place, as `read_vector` reads them: those still ahead, put into the array so far, give the vector's weights, and
 -- one law for each way that the next weight, or b, can go. Assumes nothing.
+use Rattle.std.specs.Prelude.{Ok, Err}
 use mathlib.Core.Path.{◌≡◌, ◌∙◌, ap}
 use mathlib.Core.Bool.{Bool}
 use mathlib.Core.List.{List}
@@ -8,7 +9,7 @@ use native.Mathlib.Numerals.{add-one}
 use native.Mathlib.Omega.{arith}
 use lib.ListN.{set, replicate}
 use lib.IntN.{ℤ, pos}
-use Rattle.refusal.specs.Refusal.{answered, refused}
+use Rattle.types.specs.declared.refusal.Refusal.{Refusal}
 use Rattle.types.specs.declared.vector.Vector.{Vector}
 use Rattle.codec.specs.Field.{Field, Reading, field, onward}
 use Rattle.codec.specs.VectorField.{signed_at, weights_at, vector_at}
@@ -25,7 +26,7 @@ weights_none strict n s at =
 
 -- b, and then the vector
 abbrev closed : Bool → List ℕ → List ℤ → ℕ → Reading Vector
-closed strict s a here = onward (signed_at strict s here) (λ b next. answered (field (record { a = a; b = b }) next))
+closed strict s a here = onward (signed_at strict s here) (λ b next. Ok (field (record { a = a; b = b }) next))
 
 module _ {strict : Bool} {n : ℕ} {s : List ℕ} {at : ℕ} {a : List ℤ} {here place : ℕ} (w : Weights strict n s at a here place) where
   vector_is : {r : Reading (List ℤ)} → weights_at strict (n - place) place a s here ≡ r → vector_at strict n s at ≡ onward r (closed strict s)
@@ -39,23 +40,23 @@ module _ {strict : Bool} {n : ℕ} {s : List ℕ} {at : ℕ} {a : List ℤ} {her
     next_is = let left : n - place ≡ suc (n - suc place) = omega arith in rw (left, add-one)
 
     -- the next weight is refused
-    pub weight_refused : {m : ℕ} → signed_at strict s here ≡ refused m → vector_at strict n s at ≡ refused m
-    weight_refused {m} e = vector_is {r = refused m} (next_is ∙ rw e)
+    pub weight_refused : {m : Refusal} → signed_at strict s here ≡ Err m → vector_at strict n s at ≡ Err m
+    weight_refused {m} e = vector_is {r = Err m} (next_is ∙ rw e)
 
     -- the next weight is read
-    pub weight_read : {f : Field ℤ} → signed_at strict s here ≡ answered f → Weights strict n s at (set a place f.value) f.next (place + 1)
+    pub weight_read : {f : Field ℤ} → signed_at strict s here ≡ Ok f → Weights strict n s at (set a place f.value) f.next (place + 1)
     weight_read e = record { goes_on = w.goes_on ∙ next_is ∙ rw e }
 
   module _ (h : n ≤ place) where
     last_is : vector_at strict n s at ≡ closed strict s a here
     unfolding weights_at
-    last_is = let none : n - place ≡ 0 = omega arith in vector_is {r = answered (field a here)} (rw none)
+    last_is = let none : n - place ≡ 0 = omega arith in vector_is {r = Ok (field a here)} (rw none)
 
     -- b is refused
-    pub last_refused : {m : ℕ} → signed_at strict s here ≡ refused m → vector_at strict n s at ≡ refused m
+    pub last_refused : {m : Refusal} → signed_at strict s here ≡ Err m → vector_at strict n s at ≡ Err m
     last_refused e = last_is ∙ rw e
 
     -- b is read
-    pub last_read : {f : Field ℤ} → signed_at strict s here ≡ answered f
-        → vector_at strict n s at ≡ answered (field (record { a = a; b = f.value }) f.next)
+    pub last_read : {f : Field ℤ} → signed_at strict s here ≡ Ok f
+        → vector_at strict n s at ≡ Ok (field (record { a = a; b = f.value }) f.next)
     last_read e = last_is ∙ rw e

@@ -1,5 +1,4 @@
-// Numbers and vectors of records, read from a slice at a position. Each function gives its field and the position after it, or the number
-// of a refusal.
+// Numbers and vectors of records, read from a slice at a position. Each function gives its field and the position after it, or a refusal.
 #![tactic(auto)]
 
 pub mod number;

@@ -16,6 +16,11 @@ pub fn line_end(lines: &[u8], at: usize) -> usize
     find(lines, at, lines.len(), b'\n')
 }
 
+// Returns a line without the line feed that ends it.
+pub fn text_of(line: &[u8]) -> &[u8] {
+    line.strip_suffix(b"\n").unwrap_or(line)
+}
+
 // Returns the bytes that digits in base sixteen spell, up to 32, and zeros behind them.
 fn bytes_of(digits: &[u8]) -> [u8; 32] {
     let mut bytes = [0u8; 32];

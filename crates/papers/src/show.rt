@@ -1,7 +1,7 @@
 // Words and numbers on standard output, each after the first of a line with a space in front. A write that fails gives its error.
-use refusal::refusal::Answer;
 use std::io;
 use types::inputs::InputKind;
+use types::refusal::Refusal;
 
 // Writes a word as it stands.
 pub fn word(rt: &impl Print, text: &[u8]) -> io::Result<()> {
@@ -28,11 +28,19 @@ pub fn signed(rt: &impl Print, x: i32) -> io::Result<()> {
 }
 
 // Writes a space and yes, no, or a refusal's number.
-pub fn answer(rt: &impl Print, answer: Answer) -> io::Result<()> {
+pub fn answer(rt: &impl Print, answer: Result<bool, Refusal>) -> io::Result<()> {
     match answer {
-        Answer::Yes => word(rt, b" yes"),
-        Answer::No => word(rt, b" no"),
-        Answer::Refused(by) => number(rt, by as u64),
+        Ok(true) => word(rt, b" yes"),
+        Ok(false) => word(rt, b" no"),
+        Err(refusal) => number(rt, refusal.number() as u64),
+    }
+}
+
+// Writes a space and done, or a refusal's number.
+pub fn status(rt: &impl Print, status: Result<(), Refusal>) -> io::Result<()> {
+    match status {
+        Ok(()) => word(rt, b" done"),
+        Err(refusal) => number(rt, refusal.number() as u64),
     }
 }
 

@@ -14,6 +14,7 @@ fn run(rt: &impl Print, lines: &[u8]) -> io::Result<()> {
     let mut functions: u64 = 0;
     let mut all_idle = true;
     let mut at: usize = 0;
+    // kept: the number of lines is bounded by the position, which `split_inclusive` does not show
     while at < lines.len() {
         let end = line_end(lines, at);
         let idle = paper_function::run(rt, &lines[at..end])?;

@@ -6,10 +6,10 @@ use cell::value::{gate_value, table_value};
 use papers::line::table_of;
 use papers::show;
 use papers::text::{first, number, signed, word, words_from};
-use refusal::refusal::Answer;
 use std::io;
 use types::gate::Gate;
-use types::inputs::Place;
+use types::inputs::InputKind;
+use types::refusal::Refusal;
 use types::table::Table;
 use types::witness::Witness;
 
@@ -47,15 +47,15 @@ fn run_witness(rt: &impl Print, table: Table, rows: &[u8]) -> io::Result<()> {
 
 // Prints q and the kinds of the n inputs, and ends the line.
 fn run_inputs(rt: &impl Print, table: Table) -> io::Result<bool> {
-    let q = chow_parameters(table).q;
-    let places = input_kinds(table).places;
+    let q = chow_parameters(table).unwrap_or([0i32; 8]);
+    let kinds = input_kinds(table).unwrap_or([InputKind::Idle; 8]);
     let n = table.n as usize;
     show::word(rt, b" q")?;
     show_q(rt, q, n)?;
     show::word(rt, b" kinds")?;
-    show_kinds(rt, places, n)?;
+    show_kinds(rt, kinds, n)?;
     show::word(rt, b"\n")?;
-    Ok(past_is_idle(q, places, n))
+    Ok(past_is_idle(q, kinds, n))
 }
 
 // Prints the q of the first n places.
@@ -67,19 +67,17 @@ fn show_q(rt: &impl Print, q: [i32; 8], n: usize) -> io::Result<()> {
 }
 
 // Prints the kinds of the first n places.
-fn show_kinds(rt: &impl Print, places: [Place; 8], n: usize) -> io::Result<()> {
-    for place in places.iter().take(n) {
-        show::kind(rt, place.kind)?;
+fn show_kinds(rt: &impl Print, kinds: [InputKind; 8], n: usize) -> io::Result<()> {
+    for kind in kinds.iter().take(n) {
+        show::kind(rt, *kind)?;
     }
     Ok(())
 }
 
 // Whether the places from n on are idle and 0.
-fn past_is_idle(q: [i32; 8], places: [Place; 8], n: usize) -> bool {
+fn past_is_idle(q: [i32; 8], kinds: [InputKind; 8], n: usize) -> bool {
     for place in n..8 {
-        let at = places[place];
-        let kind = at.kind;
-        if q[place] != 0 || show::letter(kind) != b'i' {
+        if q[place] != 0 || kinds[place] != InputKind::Idle {
             return false;
         }
     }
@@ -97,28 +95,15 @@ fn agreeing_rows(table: Table, gate: Gate) -> u64 {
 }
 
 // Whether both are yes or both no.
-fn agree(a: Answer, b: Answer) -> bool {
-    let said = code(a);
-    said < 2 && said == code(b)
-}
-
-// Returns 1 for yes, 0 for no, 2 for a refusal.
-fn code(answer: Answer) -> u8 {
-    match answer {
-        Answer::Yes => 1,
-        Answer::No => 0,
-        Answer::Refused(_) => 2,
-    }
+fn agree(a: Result<bool, Refusal>, b: Result<bool, Refusal>) -> bool {
+    a.is_ok() && a == b
 }
 
 // Returns the gate with T 1 where its T is at most 0, else with T 0: its value on row 0, where the sum is 0, is another one.
 fn turned_at_0(gate: Gate) -> Gate {
-    let weights = gate.weights;
-    let threshold = if gate.threshold <= 0 { 1 } else { 0 };
     Gate {
-        n: gate.n,
-        weights,
-        threshold,
+        threshold: if gate.threshold <= 0 { 1 } else { 0 },
+        ..gate
     }
 }
 

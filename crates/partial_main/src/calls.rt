@@ -5,19 +5,19 @@ use cell::checker::{check_gate, check_witness};
 use cell::chow::chow_parameters;
 use cell::inputs::input_kinds;
 use cell::value::table_value;
+use job::job::Job;
 use papers::show;
 use std::io;
 use testing::make;
 use types::gate::Gate;
+use types::inputs::InputKind;
 use types::table::Table;
 use types::vector::Vector;
 use types::witness::Witness;
 
 // Prints what each call says.
 pub fn on_line(rt: &impl Print, line: &[u8]) -> io::Result<()> {
-    let made = make::job(line);
-    let table = made.table;
-    let state = made.state;
+    let Job { table, state } = make::job(line);
     let counts = state.counts;
     show::word(rt, b": table_value")?;
     show::answer(rt, table_value(table, make::row(line)))?;
@@ -39,18 +39,14 @@ fn gate_of(n: u8, v: Vector) -> Gate {
     }
 }
 
-// Prints the kinds and the q of all eight places.
+// Prints the kinds and the q of all eight places; beside a refusal idle and 0.
 fn on_inputs(rt: &impl Print, table: Table) -> io::Result<()> {
     let kinds = input_kinds(table);
-    let kinds_status = kinds.status;
-    let places = kinds.places;
     show::word(rt, b" input_kinds")?;
-    print::status(rt, kinds_status)?;
-    print::kinds(rt, places)?;
-    let chow = chow_parameters(table);
-    let chow_status = chow.status;
-    let q = chow.q;
+    show::status(rt, kinds.and(Ok(())))?;
+    print::kinds(rt, kinds.unwrap_or([InputKind::Idle; 8]))?;
+    let q = chow_parameters(table);
     show::word(rt, b" chow_parameters")?;
-    print::status(rt, chow_status)?;
-    print::numbers(rt, q)
+    show::status(rt, q.and(Ok(())))?;
+    print::numbers(rt, q.unwrap_or([0i32; 8]))
 }

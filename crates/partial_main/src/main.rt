@@ -6,7 +6,7 @@
 mod calls;
 mod print;
 
-use papers::line::line_end;
+use papers::line::text_of;
 use papers::show;
 use papers::text::first;
 use std::io;
@@ -14,11 +14,8 @@ use std::io::Read;
 
 // Runs each line.
 fn run(rt: &impl Print, lines: &[u8]) -> io::Result<()> {
-    let mut at: usize = 0;
-    while at < lines.len() {
-        let end = line_end(lines, at);
-        run_line(rt, &lines[at..end])?;
-        at = end + 1;
+    for line in lines.split_inclusive(|byte| *byte == b'\n') {
+        run_line(rt, text_of(line))?;
     }
     Ok(())
 }

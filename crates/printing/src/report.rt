@@ -33,10 +33,10 @@ fn print_lines(rt: &impl Print, input: &[u8]) -> io::Result<()>
 {
     let mut out = [0u8; 65536];
     let mut progress = at_start();
+    // kept: nothing is counted here, the loop goes on while a line is left
     while !is_done(progress) {
         let lines = fill(input, progress, &mut out);
-        let length = lines.length;
-        rt.write_all(&out[..length])?;
+        rt.write_all(&out[..lines.length])?;
         progress = lines.next;
     }
     Ok(())

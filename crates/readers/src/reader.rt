@@ -1,15 +1,21 @@
-// The reader: the sender's bytes together with the position reached. Each function over it takes it apart and leaves the work to one on a
-// slice and a number; `moved` takes it on to where a field ended.
-ghost use Rattle.std.specs.Prelude.{◌≡◌};
+// The reader: the sender's bytes together with the position reached. Each method leaves the work to a function on a slice and a number;
+// `moved` takes the reader on to where a field ended.
+ghost use Rattle.std.specs.Prelude.{◌≡◌, [], ◌∷◌, Ok};
+ghost use Rattle.refusal.specs.Refusal.{checked};
 ghost use Rattle.codec.specs.Kind.{kind_at};
-ghost use Rattle.reading.specs.Fields.{table_by, table_field};
-ghost use Rattle.heads.specs.Heads.{kind_field, taken_by};
-ghost use Rattle.records.specs.Calls.{record_field, body_by, ended};
+ghost use Rattle.codec.specs.TableField.{table_at};
+ghost use Rattle.heads.specs.Heads.{taken_by};
+ghost use Rattle.records.specs.Record.{body_at, bytes_left};
 ghost use Rattle.readers.specs.Reader.{MovedTo, Starts};
 
-use heads::kind::{KindField, Takes, read_kind};
-use reading::tables::{TableField, table_after};
-use records::read::{Read, RecordField, body_at, end_at};
+use heads::kind::{Takes, read_kind};
+use reading::tables::read_table;
+use records::read::{body_at, end_at};
+use records::record::Record;
+use types::field::Field;
+use types::kind::Head;
+use types::refusal::Refusal;
+use types::table::Table;
 
 #[derive(Clone, Copy)]
 pub struct Reader<'a> {
@@ -17,44 +23,46 @@ pub struct Reader<'a> {
     pub at: usize,
 }
 
-// Returns the reader at the start of the bytes.
-pub fn start<'a>(src: &'a [u8]) -> Reader<'a>
-    ensures { Starts src.entry result }
-{
-    Reader { src, at: 0 }
-}
+impl<'a> Reader<'a> {
+    // Returns the reader at the start of the bytes.
+    pub fn start(src: &'a [u8]) -> Self
+        ensures { Starts src.entry result }
+    {
+        Reader { src, at: 0 }
+    }
 
-// Returns the reader at another position.
-pub fn moved<'a>(r: Reader<'a>, at: usize) -> Reader<'a>
-    ensures { MovedTo r.entry at result }
-{
-    Reader { src: r.src, at }
-}
+    // Returns the reader at another position.
+    pub fn moved(self, at: usize) -> Self
+        ensures { MovedTo self.entry at result }
+    {
+        Reader { src: self.src, at }
+    }
 
-// Reads the kind byte where the reader stands, among the kinds that the caller takes. Refusals: 1, 5.
-pub fn kind<'a>(r: Reader<'a>, takes: Takes) -> KindField
-    ensures { result ≡ kind_field (kind_at (taken_by takes) r.entry.src.now r.entry.at) }
-{
-    read_kind(r.src, r.at, takes)
-}
+    // Reads the kind byte where the reader stands, among the kinds that the caller takes. Refusals: 1, 5.
+    pub fn kind(self, takes: Takes) -> Result<Field<Head>, Refusal>
+        ensures { result ≡ kind_at (taken_by takes) self.entry.src.now self.entry.at }
+    {
+        read_kind(self.src, self.at, takes)
+    }
 
-// Reads what follows a kind byte that was read. Refusals: the kind's; 1, 4, 2, 3, 16 of the table; 7, 8 or 9 by the kind.
-pub fn body<'a>(r: Reader<'a>, kind: KindField) -> RecordField
-    ensures { result ≡ record_field (body_by kind.said r.entry.src.now r.entry.at) }
-{
-    body_at(r.src, r.at, kind)
-}
+    // Reads what follows a kind byte that was read. Refusals: 1, 4, 2, 3, 16 of the table; 7, 8 or 9 by the family.
+    pub fn body(self, head: Head) -> Result<Field<Record>, Refusal>
+        ensures { result ≡ body_at head self.entry.src.now self.entry.at }
+    {
+        body_at(self.src, self.at, head)
+    }
 
-// Returns the record that was read, if the reader has reached the end. Refusals: the record's; 6.
-pub fn end<'a>(r: Reader<'a>, body: RecordField) -> Read
-    ensures { result ≡ ended body.read r.entry.src.now r.entry.at }
-{
-    end_at(r.src, r.at, body)
-}
+    // Returns the record that was read, if the reader has reached the end. Refusal: 6.
+    pub fn end(self, read: Record) -> Result<Record, Refusal>
+        ensures { result ≡ checked (bytes_left self.entry.src.now self.entry.at ∷ []) (Ok read) }
+    {
+        end_at(self.src, self.at, read)
+    }
 
-// Reads the table that follows a kind byte that was read. Refusals: the kind's; 1, 4, 2, 3, 16 of the table.
-pub fn table<'a>(r: Reader<'a>, kind: KindField) -> TableField
-    ensures { result ≡ table_field (table_by kind.said r.entry.src.now r.entry.at) }
-{
-    table_after(r.src, r.at, kind)
+    // Reads the table that follows a kind byte that was read. Refusals: 1, 4, 2, 3, 16 of the table.
+    pub fn table(self, head: Head) -> Result<Field<Table>, Refusal>
+        ensures { result ≡ table_at head.cares self.entry.src.now self.entry.at }
+    {
+        read_table(self.src, self.at, head.cares)
+    }
 }

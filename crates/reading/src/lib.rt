@@ -1,4 +1,4 @@
-// The table of a record, read from a slice at a position: the table and the position after it, or the number of a refusal.
+// The table of a record, read from a slice at a position: the table and the position after it, or a refusal.
 #![tactic(auto)]
 
 pub mod tables;

@@ -1,2 +1,2 @@
--- a record's kind, body and end, one after another
+-- a record of a report, of the kinds of tables alone
 pub mod ReadLaws

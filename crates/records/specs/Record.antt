@@ -1,10 +1,13 @@
 -- A record: its bytes, and what bytes mean (document 01, "Records" and "Who causes which number"). Definitions only. Assumes nothing.
-use Rattle.std.specs.Prelude.{ℕ, true, false, not, ◌&&◌, List, [], ◌∷◌, ◌++◌, length, nat_lt}
+use Rattle.records.specs.declared.record.Record.TheVariants as Record'
+use Rattle.types.specs.declared.refusal.Refusal.TheVariants as Refusal'
+use Rattle.std.specs.Prelude.{ℕ, true, false, not, ◌&&◌, List, [], ◌∷◌, ◌++◌, length, nat_lt, Ok}
+use Rattle.records.specs.declared.record.Record.{Record}
 use Rattle.types.specs.declared.table.Table.{Table}
 use Rattle.types.specs.declared.gate.Gate.{Gate}
 use Rattle.types.specs.declared.witness.Witness.{Witness}
 use Rattle.table.specs.Table.{rows, is_whole}
-use Rattle.refusal.specs.Refusal.{Rule, rule, Answered, answered, checked}
+use Rattle.refusal.specs.Refusal.{Rule, rule, Answered, checked}
 use Rattle.types.specs.declared.vector.Vector.{Vector}
 use Rattle.numbers.specs.Power.{highest}
 use Rattle.job.specs.declared.job.Job.{Job}
@@ -15,29 +18,22 @@ use Rattle.codec.specs.Field.{Reading, field, onward}
 use Rattle.codec.specs.Number.{number_bytes, number_at}
 use Rattle.codec.specs.VectorField.{vector_bytes, vector_at}
 use Rattle.codec.specs.RowList.{RowList, row_list_bytes, row_list_at}
-use Rattle.codec.specs.Kind.{Family, tables, gates, witnesses, jobs, Head, head, head_kind, every_kind, record_with}
+use Rattle.codec.specs.Kind.{Family, Tables, Gates, Witnesses, Jobs, Head, head, head_kind, every_kind, record_with}
 use Rattle.codec.specs.TableField.{table_bytes, table_at}
-
--- a table (kinds 1 and 5); a table with a gate (2); with a witness (3); an open job (4 and 6)
-pub data Record : Type 0 where
-  of_table : Table → Record
-  of_gate : Table → Gate → Record
-  of_witness : Table → Witness → Record
-  of_job : Job → Record
 
 -- the family of a record
 abbrev pub family : Record → Family
-family (of_table t) = tables
-family (of_gate t g) = gates
-family (of_witness t w) = witnesses
-family (of_job j) = jobs
+family (Record'.Table t) = Tables
+family (Record'.Gate t g) = Gates
+family (Record'.Witness t w) = Witnesses
+family (Record'.Job j) = Jobs
 
 -- the table of a record
 abbrev pub table_in : Record → Table
-table_in (of_table t) = t
-table_in (of_gate t g) = t
-table_in (of_witness t w) = t
-table_in (of_job j) = j.table
+table_in (Record'.Table t) = t
+table_in (Record'.Gate t g) = t
+table_in (Record'.Witness t w) = t
+table_in (Record'.Job j) = j.table
 
 -- what the kind byte of a record says: care bytes follow where a row of its table is not cared for
 abbrev pub head_in : Record → Head
@@ -58,10 +54,10 @@ job_bytes j = numbers_bytes j ++ row_list_bytes j.state.counts
 
 -- what follows the kind byte
 unfoldable pub body_bytes : Record → List ℕ
-body_bytes (of_table t) = table_bytes t
-body_bytes (of_gate t g) = table_bytes t ++ vector_bytes t.n (gate_vector g)
-body_bytes (of_witness t w) = table_bytes t ++ row_list_bytes w.counts
-body_bytes (of_job j) = table_bytes j.table ++ job_bytes j
+body_bytes (Record'.Table t) = table_bytes t
+body_bytes (Record'.Gate t g) = table_bytes t ++ vector_bytes t.n (gate_vector g)
+body_bytes (Record'.Witness t w) = table_bytes t ++ row_list_bytes w.counts
+body_bytes (Record'.Job j) = table_bytes j.table ++ job_bytes j
 
 unfoldable pub record_bytes : Record → List ℕ
 unfolding body_bytes
@@ -71,11 +67,11 @@ record_bytes x = head_kind (head_in x) ∷ body_bytes x
 
 -- after the table of kind 2, each weight, then T: 1, 4, 7
 abbrev pub gate_at : Table → List ℕ → ℕ → Reading Record
-gate_at t s at = onward (vector_at true t.n s at) (λ v next. answered (field (of_gate t (vector_gate t.n v)) next))
+gate_at t s at = onward (vector_at true t.n s at) (λ v next. Ok (field (Record'.Gate t (vector_gate t.n v)) next))
 
 -- after that of kind 3, a row list: each number 1, 4, 8
 abbrev pub witness_at : Table → List ℕ → ℕ → Reading Record
-witness_at t s at = onward (row_list_at true (rows t) s at) (λ list next. answered (field (of_witness t (record { counts = list.counts })) next))
+witness_at t s at = onward (row_list_at true (rows t) s at) (λ list next. Ok (field (Record'.Witness t (record { counts = list.counts })) next))
 
 -- the open job of the numbers of a kind 4 or 6 record. M is not stored: it is the highest power of two not above K
 abbrev pub open_job : Table → ℕ → Vector → Vector → List ℕ → Job
@@ -83,14 +79,14 @@ open_job t k v s counts = record { table = t; state = record { k = k; v = v; mar
 
 -- 9: the list broke a range, or the job is not sound
 abbrev pub unsound_job : RowList → Job → Rule
-unsound_job list j = rule 9 (not (list.kept && is_sound j))
+unsound_job list j = rule Refusal'.Unsound (not (list.kept && is_sound j))
 
 -- of kinds 4 and 6, after K, v and s: each number 1, 4; after the last 9
 abbrev pub counts_at : Table → ℕ → Vector → Vector → List ℕ → ℕ → Reading Record
 counts_at t k v w s at =
     onward (row_list_at false (rows t) s at) (λ list next.
     let j = open_job t k v w list.counts in
-    checked (unsound_job list j ∷ []) (answered (field (of_job j) next)))
+    checked (unsound_job list j ∷ []) (Ok (field (Record'.Job j) next)))
 
 abbrev pub job_at : Table → List ℕ → ℕ → Reading Record
 job_at t s at =
@@ -98,10 +94,10 @@ job_at t s at =
 
 -- what follows the table, by the family
 unfoldable pub rest_at : Family → Table → List ℕ → ℕ → Reading Record
-rest_at tables t s at = answered (field (of_table t) at)
-rest_at gates t s at = gate_at t s at
-rest_at witnesses t s at = witness_at t s at
-rest_at jobs t s at = job_at t s at
+rest_at Tables t s at = Ok (field (Record'.Table t) at)
+rest_at Gates t s at = gate_at t s at
+rest_at Witnesses t s at = witness_at t s at
+rest_at Jobs t s at = job_at t s at
 
 -- what follows the kind byte, by what it says: a table, and what follows it
 unfoldable pub body_at : Head → List ℕ → ℕ → Reading Record
@@ -113,13 +109,13 @@ record_at takes s at = record_with takes body_at s at
 
 -- 6: bytes left after a single record
 abbrev pub bytes_left : List ℕ → ℕ → Rule
-bytes_left s at = rule 6 (nat_lt at (length s))
+bytes_left s at = rule Refusal'.BytesLeft (nat_lt at (length s))
 
 -- the single record, of every kind, from a position to the end
 unfoldable pub single_at : List ℕ → ℕ → Answered Record
 unfolding record_at
-single_at s at = onward (record_at every_kind s at) (λ x next. checked (bytes_left s next ∷ []) (answered x))
+single_at s at = onward (record_at every_kind s at) (λ x next. checked (bytes_left s next ∷ []) (Ok x))
 
--- what bytes mean: one record, or one number
+-- what bytes mean: one record, or one refusal
 abbrev pub read_record : List ℕ → Answered Record
 read_record s = single_at s 0

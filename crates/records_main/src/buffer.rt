@@ -1,8 +1,8 @@
 // A record written into a buffer, all of whose bytes were the same before.
 use crate::record;
-use records::read::Read;
+use records::record::Record;
 use testing::parts::{first_bytes, least};
-use writers::write::Written;
+use types::refusal::Refusal;
 
 // The length of the buffer: more than the longest record takes.
 pub const ROOM: usize = 1300;
@@ -18,36 +18,20 @@ pub struct Buffer {
     pub number: u8,
 }
 
-// Returns the length written, 0 beside a refusal.
-fn length_of(written: Written) -> usize {
-    match written {
-        Written::Bytes(length) => length,
-        Written::Refused(_) => 0,
-    }
-}
-
-// Returns the number of a refusal, or 0.
-fn number_of(written: Written) -> u8 {
-    match written {
-        Written::Bytes(_) => 0,
-        Written::Refused(number) => number,
-    }
-}
-
 // Writes a record into the first bytes of a buffer, or into all where it has no more.
-fn write_part(record: Read, out: &mut [u8], room: usize) -> Written {
+fn write_part(record: Record, out: &mut [u8], room: usize) -> Result<usize, Refusal> {
     let end = least(room, out.len());
     record::write(record, &mut out[0..end])
 }
 
 // Writes a record into the first bytes of a blank buffer.
-pub fn written(record: Read, room: usize) -> Buffer {
+pub fn written(record: Record, room: usize) -> Buffer {
     let mut bytes = [BLANK; 1300];
     let written = write_part(record, &mut bytes, room);
     Buffer {
         bytes,
-        length: length_of(written),
-        number: number_of(written),
+        length: written.unwrap_or(0),
+        number: record::number_of(written.and(Ok(()))),
     }
 }
 

@@ -4,7 +4,7 @@ use crate::{buffer, record, spoiled};
 use papers::show;
 use papers::text::{digit, word};
 use receiving::record::read;
-use records::read::Read;
+use records::record::Record;
 use std::io;
 use testing::parts::first_bytes;
 use testing::tally;
@@ -40,9 +40,9 @@ fn show_bytes(rt: &impl Print, line: &[u8], bytes: &[u8]) -> io::Result<()> {
 
 // Prints whether a record's bytes are read as the record, and what comes of reading them from other positions, and of writing the
 // record into buffers of each length.
-fn show_whole(rt: &impl Print, record: Read, bytes: &[u8]) -> io::Result<()> {
+fn show_whole(rt: &impl Print, record: Record, bytes: &[u8]) -> io::Result<()> {
     show::word(rt, b" read")?;
-    show::same(rt, record::same(read(bytes), record))?;
+    show::same(rt, read(bytes) == Ok(record))?;
     tally::print(rt, b" from", spoiled::tails(bytes))?;
     tally::print(rt, b" room", spoiled::rooms(record, bytes))
 }
@@ -78,9 +78,8 @@ fn end_line(rt: &impl Print, is_right: bool) -> io::Result<()> {
 fn show_reading(rt: &impl Print, string: &[u8; 64], length: usize) -> io::Result<()> {
     let bytes = first_bytes(string, length);
     let answer = read(bytes);
-    let kind = answer.kind;
     show::word(rt, b":")?;
-    show::number(rt, record::number_of(kind) as u64)?;
+    show::number(rt, record::number_of(answer.and(Ok(()))) as u64)?;
     end_line(rt, spoiled::is_right_reading(answer, bytes))
 }
 

@@ -4,32 +4,27 @@ ghost use Rattle.std.specs.Prelude.{◌<◌, ◌≤◌};
 use crate::buffer::{ROOM, is_right};
 use crate::{buffer, record};
 use receiving::record::read;
-use records::read::Read;
+use records::record::Record;
 use testing::parts::{first_bytes, least, rest};
 use testing::tally;
 use testing::tally::Tally;
-use types::kind::Kind;
+use types::refusal::Refusal;
 
-// Whether what reading some bytes gave is right: the record is written as the same bytes, or has no part beside a refusal.
-pub fn is_right_reading(answer: Read, bytes: &[u8]) -> bool {
-    let kind = answer.kind;
-    let number = record::number_of(kind);
-    if number == 0 {
-        let written = buffer::written(answer, ROOM);
-        written.number == 0 && is_right(written, bytes)
-    } else {
-        record::same(answer, record::bare(Kind::Refused(number)))
+// Whether what reading some bytes gave is right: a record is written as the same bytes.
+pub fn is_right_reading(answer: Result<Record, Refusal>, bytes: &[u8]) -> bool {
+    match answer {
+        Ok(record) => {
+            let written = buffer::written(record, ROOM);
+            written.number == 0 && is_right(written, bytes)
+        }
+        Err(_) => true,
     }
 }
 
 // Counts what reading some bytes gave.
-fn counted(tally: Tally, answer: Read, bytes: &[u8]) -> Tally {
-    let kind = answer.kind;
-    tally::count(
-        tally,
-        record::number_of(kind),
-        is_right_reading(answer, bytes),
-    )
+fn counted(tally: Tally, answer: Result<Record, Refusal>, bytes: &[u8]) -> Tally {
+    let number = record::number_of(answer.and(Ok(())));
+    tally::count(tally, number, is_right_reading(answer, bytes))
 }
 
 // Counts what reading the first bytes gives.
@@ -49,7 +44,7 @@ pub fn cut(bytes: &[u8; 1300], length: usize) -> Tally {
 }
 
 // Reads from a position to the end; past the end there is nothing.
-fn read_from(bytes: &[u8], at: usize) -> Read {
+fn read_from(bytes: &[u8], at: usize) -> Result<Record, Refusal> {
     if at < bytes.len() {
         return read(&bytes[at..]);
     }
@@ -82,11 +77,9 @@ fn changed(tally: Tally, original: [u8; 1300], length: usize, at: usize) -> Tall
     let mut next = tally;
     let mut bytes = original;
     let step = stride(length);
-    let mut added: usize = 1;
-    while added < 256 {
+    for added in (1..256usize).step_by(step) {
         bytes[at] = original[at].wrapping_add(added as u8);
         next = counted_first(next, &bytes, length);
-        added = added + step;
     }
     next
 }
@@ -102,7 +95,7 @@ pub fn changes(original: [u8; 1300], length: usize) -> Tally {
 }
 
 // Writes a record into buffers of each length up to two more than it takes.
-pub fn rooms(original: Read, bytes: &[u8]) -> Tally {
+pub fn rooms(original: Record, bytes: &[u8]) -> Tally {
     let last = least(bytes.len(), ROOM) + 2;
     let mut tally = tally::none();
     for room in 0..last + 1 {

@@ -1,4 +1,4 @@
--- a number is given exactly if its rule is the first broken one
+-- a refusal is given exactly if its rule is the first broken one
 pub mod RefusalLaws
 -- what a status says of every call that begins with the rules it tested
 pub mod StatusLaws

@@ -1,21 +1,20 @@
 -- What the test of a table (`table_status`) says of every call's rules, which begin with the table's: callers cite these laws and not
 -- the rules' text. Assumes nothing.
+use Rattle.std.specs.Prelude.{Ok, Err}
 use mathlib.Core.Path.{◌≡◌, ◌∙◌, ap}
 use mathlib.Core.Bool.{Bool, true, false, not, ◌||◌, or-true}
 use mathlib.Core.List.{List, [], ◌∷◌}
+use Rattle.types.specs.declared.refusal.Refusal.{Refusal}
 use Prim.Native.Nat.{ℕ, ◌≤◌}
 use borrow.Author.Tests.{ltb-false, le-ltb}
 use Rattle.numbers.proofs.TestLaws.{or_false_left, or_false_right, or_neither, all_below_from}
-use Rattle.refusal.proofs.StatusLaws.{rules_refused, rules_kept, rules_passed}
+use Rattle.refusal.proofs.StatusLaws.{rules_refused, rules_passed}
 use Rattle.types.specs.declared.table.Table.{Table}
 use Rattle.table.specs.Table.{input_limit, rows, value, whole_table, is_whole, spare_set, stray_value}
 use Rattle.table.proofs.RowLaws.{rows_clear}
 use Rattle.table.proofs.CareLaws.{kept_at, whole_at, whole_table_lem}
-use Rattle.refusal.specs.declared.refusal.Status.{Status}
-use Rattle.refusal.specs.declared.refusal.Status.TheVariants as Status'
-use Rattle.refusal.specs.Answers.{status}
 use Rattle.refusal.specs.TableRules.{too_many_inputs, table_rules, table_checked}
-use Rattle.refusal.specs.Refusal.{Rule, Answered, refused, checked, NoneBroken, none, also}
+use Rattle.refusal.specs.Refusal.{Rule, Answered, checked, NoneBroken, none, also}
 
 narrow : (n : ℕ) {rs : List Rule} → NoneBroken (too_many_inputs n ∷ rs) → n ≤ 8
 narrow n (also b f) = ltb-false input_limit n b
@@ -63,15 +62,11 @@ pub all_kept : (t : Table) {others : List Rule} → NoneBroken (table_rules t []
 all_kept t (also few (also clear (also kept end))) rest = also few (also clear (also kept rest))
 
 -- s is what `table_status` returned for the table t
-module _ {s : Status} (t : Table) (says : s ≡ status (table_checked t)) where
-  -- a table that is refused is refused with its number by every call that begins with the table's rules
-  pub table_refused : {A : Type 0} (others : List Rule) (next : Answered A) {n : ℕ} → s ≡ Status'.Refused n → refused n ≡ checked (table_rules t others) next
+module _ {s : Answered (Unit {0})} (t : Table) (says : s ≡ table_checked t) where
+  -- a table that is refused is refused with its refusal by every call that begins with the table's rules
+  pub table_refused : {A : Type 0} (others : List Rule) (next : Answered A) {n : Refusal} → s ≡ Err n → Err n ≡ checked (table_rules t others) next
   table_refused others next e = rules_refused (table_rules t []) says (checked others next) e
 
   -- a table that keeps its format leaves the call to its other rules
-  pub table_passed : {A : Type 0} (others : List Rule) (next : Answered A) → s ≡ Status'.Done → checked others next ≡ checked (table_rules t others) next
+  pub table_passed : {A : Type 0} (others : List Rule) (next : Answered A) → s ≡ Ok tt → checked others next ≡ checked (table_rules t others) next
   table_passed others next e = rules_passed (table_rules t []) says (checked others next) e
-
-  -- and has at most eight inputs
-  pub table_inputs : s ≡ Status'.Done → t.n ≤ 8
-  table_inputs e = kept_inputs t (rules_kept (table_rules t []) says e)

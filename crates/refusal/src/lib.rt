@@ -1,4 +1,4 @@
-// What a call answers when it has no value to give, and the test of a table that every call begins with.
+// The test of a table that every call begins with. The order of refusals is a definition (specs/Refusal.antt).
 #![tactic(auto)]
 
 pub mod refusal;

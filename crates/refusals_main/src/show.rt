@@ -1,6 +1,6 @@
 // Words, numbers and answers on standard output.
-use refusal::refusal::{Answer, Status};
 use std::io;
+use types::refusal::Refusal;
 
 // Writes a text as it stands.
 pub fn word(rt: &impl Print, text: &[u8]) -> io::Result<()> {
@@ -34,27 +34,27 @@ pub fn gate(rt: &impl Print, n: u8, place: usize, weight: u32, threshold: u32) -
 }
 
 // Writes a text and yes, no, or the refusal's number.
-pub fn answer(rt: &impl Print, text: &[u8], answer: Answer) -> io::Result<()> {
+pub fn answer(rt: &impl Print, text: &[u8], answer: Result<bool, Refusal>) -> io::Result<()> {
     word(rt, text)?;
     match answer {
-        Answer::Yes => word(rt, b" yes"),
-        Answer::No => word(rt, b" no"),
-        Answer::Refused(number) => field(rt, b" ", number as u64),
+        Ok(true) => word(rt, b" yes"),
+        Ok(false) => word(rt, b" no"),
+        Err(refusal) => field(rt, b" ", refusal.number() as u64),
     }
 }
 
-// Writes a text, done or the refusal's number, and the word `blank` if the array beside them holds nothing.
+// Writes a text, done or the refusal's number, and the word `blank` if all places are idle or 0, as they are taken to be beside a refusal.
 pub fn status(
     rt: &impl Print,
     text: &[u8],
-    status: Status,
+    status: Result<(), Refusal>,
     blank: &[u8],
     is_blank: bool,
 ) -> io::Result<()> {
     word(rt, text)?;
     match status {
-        Status::Done => word(rt, b" done")?,
-        Status::Refused(number) => field(rt, b" ", number as u64)?,
+        Ok(()) => word(rt, b" done")?,
+        Err(refusal) => field(rt, b" ", refusal.number() as u64)?,
     }
     if is_blank {
         word(rt, blank)

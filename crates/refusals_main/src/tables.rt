@@ -8,7 +8,7 @@ use cell::inputs::input_kinds;
 use cell::value::table_value;
 use cell::whole::whole_table;
 use std::io;
-use types::inputs::{InputKind, Place};
+use types::inputs::InputKind;
 use types::table::Table;
 
 // n: 8 is accepted, 9 and more are 2, also where a bit is set that 3 would name.
@@ -95,41 +95,24 @@ fn calls(rt: &impl Print, table: Table) -> io::Result<()> {
 
 fn show_kinds(rt: &impl Print, table: Table) -> io::Result<()> {
     let kinds = input_kinds(table);
-    let status = kinds.status;
-    let places = kinds.places;
-    show::status(rt, b" input_kinds", status, b" idle", all_idle(places))
+    let places = kinds.unwrap_or([InputKind::Idle; 8]);
+    show::status(
+        rt,
+        b" input_kinds",
+        kinds.and(Ok(())),
+        b" idle",
+        places == [InputKind::Idle; 8],
+    )
 }
 
 fn show_chow(rt: &impl Print, table: Table) -> io::Result<()> {
-    let chow = chow_parameters(table);
-    let status = chow.status;
-    let q = chow.q;
-    show::status(rt, b" chow_parameters", status, b" zero", all_0(q))
-}
-
-fn all_idle(places: [Place; 8]) -> bool {
-    for place in &places {
-        if !is_idle(place.kind) {
-            return false;
-        }
-    }
-    true
-}
-
-fn is_idle(kind: InputKind) -> bool {
-    match kind {
-        InputKind::Idle => true,
-        InputKind::Rising => false,
-        InputKind::Falling => false,
-        InputKind::Binate => false,
-    }
-}
-
-fn all_0(q: [i32; 8]) -> bool {
-    for parameter in &q {
-        if *parameter != 0 {
-            return false;
-        }
-    }
-    true
+    let q = chow_parameters(table);
+    let numbers = q.unwrap_or([0i32; 8]);
+    show::status(
+        rt,
+        b" chow_parameters",
+        q.and(Ok(())),
+        b" zero",
+        numbers == [0i32; 8],
+    )
 }

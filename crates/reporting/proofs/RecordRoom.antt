@@ -1,16 +1,13 @@
 -- The line of a record fits into the room of a line where the job's numbers fit the code's types: most of it are the pairs of 256 rows,
 -- each of at most 15 bytes. Assumes nothing.
 use mathlib.Core.Path.{◌≡◌}
-use mathlib.Core.List.{List, [], ◌∷◌}
+use mathlib.Core.List.{List}
 use Prim.Native.Nat.{ℕ, zero, suc, ◌+◌, ◌*◌, ◌^◌, ◌≤◌, ◌<◌}
 use native.Mathlib.Omega.{arith}
 use lib.ListN.{length, get_or, length-append}
 use lib.IntN.{ℤ, pos, negsuc}
 use mir.Syntax.{w32}
-use denote.Array.{each}
-use denote.Shadow.{shadow}
-use denote.Signed.{SInt}
-use mir.Val.{Val, SFits}
+use mir.Val.{SFits}
 use Rattle.numbers.specs.Sum.{weighted_sum}
 use Rattle.numbers.proofs.Int.{up, dn, size_add}
 use Rattle.numbers.proofs.SumLaws.{weighted_sum_size}
@@ -29,13 +26,6 @@ use Rattle.notation.specs.WitnessText.{height, pair_text, pairs_text, witness_te
 use Rattle.text.proofs.DecimalLaws.{decimal_most}
 use Rattle.notation.proofs.HeightLaws.{height_most}
 use Rattle.notation.proofs.PairTextLaws.{pairs_text_zero, pairs_text_suc}
-
--- an element of an array of 32 bits that is a field is in their range, for `search`, from what the code's types say of it
-pub signed_fits_row : (xs : List ℤ) (us : List Val) (i : ℕ) → shadow (each ℤ (SInt w32).own_val xs us) → SFits w32 (get_or xs i (pos 0))
-signed_fits_row [] us i p = record { sfits = omega arith }
-signed_fits_row (x ∷ xs) [] i p = absurd p
-signed_fits_row (x ∷ xs) (u ∷ us) zero p = record { sfits = p.0.1 }
-signed_fits_row (x ∷ xs) (u ∷ us) (suc i) p = signed_fits_row xs us i p.1
 
 -- a number of at most so many digits, with its sign
 signed_most : (d : ℕ) (z : ℤ) → up z + dn z < 10 ^ suc d → length (signed_text z) ≤ suc (suc d)

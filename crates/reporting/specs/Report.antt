@@ -1,6 +1,6 @@
 -- A whole report (document 01, "Kinds, Chow, report"). Definitions only. Assumes nothing.
-use Rattle.std.specs.Prelude.{cond, List, ◌++◌, ℕ, zero, suc, ◌+◌, ◌*◌, ◌≤◌, ltb, length}
-use Rattle.refusal.specs.Refusal.{answered, refused}
+use Rattle.std.specs.Prelude.{cond, List, ◌++◌, ℕ, zero, suc, ◌+◌, ◌*◌, ◌≤◌, ltb, length, Ok, Err}
+use Rattle.types.specs.Refusal.{number_of}
 use Rattle.types.specs.declared.stage.Stage.{Stage}
 use Rattle.types.specs.declared.stage.Stage.TheVariants.{Open, Found, Looped, Binate}
 use Rattle.job.specs.Machine.{decided}
@@ -43,8 +43,8 @@ pub record Within (t : Tally) : Type 0 where
 
 -- the line of the record at a position, whose table gets one carry-on of 100,000, and then the rest; a refusal prints its line and ends reading, and the last line still follows
 abbrev pub record_then : (ℕ → Tally → List ℕ) → Tally → Reading Table → List ℕ
-record_then rest t (refused n) = refusal_line (t.records + 1) n ++ last_line t
-record_then rest t (answered f) =
+record_then rest t (Err e) = refusal_line (t.records + 1) (number_of e) ++ last_line t
+record_then rest t (Ok f) =
     record_line (t.records + 1) (decided f.value) ++ rest f.next (counted (decided f.value).state.stage (decided f.value).state.k t)
 
 -- from a position on: records of kinds 1 and 5 one after another, at most so many

@@ -2,6 +2,7 @@
 ghost use Rattle.std.specs.Prelude.{◌≡◌, ◌≤◌, ◌<◌, length};
 ghost use Rattle.codec.specs.Written.{Room, Put};
 ghost use Rattle.reporting.specs.Lines.{verdict_text, record_line, refusal_line, too_long_line, mean_tenths, mean_text, last_line, line_room};
+ghost use Rattle.types.specs.Refusal.{number_of};
 ghost use Rattle.reporting.specs.Report.{input_most, sum_most, Within};
 
 use crate::tally::Tally;
@@ -11,28 +12,26 @@ use notation::gate::put_gate;
 use notation::witness::put_witness;
 use text::decimal::put_decimal;
 use text::field::{put_byte, put_letter, put_number};
+use types::refusal::Refusal;
 use types::stage::Stage;
 
 // The room that every line fits into.
 pub const LINE_ROOM: usize = 4096;
 
 // Writes what a job's stage has to say.
+#[tactic(auto, unfolding(crate::specs::Lines::open_text))]
 fn put_verdict(out: &mut [u8], at: usize, job: Job) -> usize
     requires { (job.table.n ≤ 8) × Room out.old at (verdict_text job.state.stage job) }
     ensures { Put out.old at (verdict_text job.state.stage job) out.new result }
 {
-    let table = job.table;
-    let state = job.state;
-    let counts = state.counts;
-    let stage = state.stage;
-    match stage {
+    let state = &job.state;
+    match state.stage {
         Stage::Open => {
             let here = put_letter(out, at, b'S');
             put_number(out, here, state.k as u64)
         }
-        Stage::Found => put_gate(out, at, state.k, vector_gate(table.n, state.v)),
-        Stage::Looped => put_witness(out, at, state.k, table, &counts),
-        Stage::Binate => put_witness(out, at, state.k, table, &counts),
+        Stage::Found => put_gate(out, at, state.k, vector_gate(job.table.n, state.v)),
+        Stage::Looped | Stage::Binate => put_witness(out, at, state.k, job.table, &state.counts),
     }
 }
 
@@ -49,14 +48,16 @@ pub fn record_line(out: &mut [u8], position: u64, job: Job) -> usize
 }
 
 // Makes the line of a refusal: position, R, number.
-pub fn refusal_line(out: &mut [u8], position: u64, number: u8) -> usize
+#[tactic(auto, using(text::proofs::DecimalLaws::decimal_twenty), unfolding(crate::specs::Lines::refusal_line))]
+pub fn refusal_line(out: &mut [u8], position: u64, refusal: Refusal) -> usize
     requires { line_room ≤ length out.old }
-    ensures put { Put out.old 0 (refusal_line position number) out.new result }
+    ensures put { Put out.old 0 (refusal_line position (number_of refusal)) out.new result }
     ensures upper_bound { result ≤ line_room }
 {
+    let number = refusal.number() as u64;
     let mut here = put_decimal(out, 0, position);
     here = put_letter(out, here, b'R');
-    here = put_number(out, here, number as u64);
+    here = put_number(out, here, number);
     put_byte(out, here, b'\n')
 }
 
@@ -69,9 +70,10 @@ fn mean_tenths(gates: u64, sum: u64) -> u64
     let below = 10 * sum / gates;
     let twice = 2 * (10 * sum % gates);
     if gates < twice + below % 2 {
-        return below + 1;
+        below + 1
+    } else {
+        below
     }
-    below
 }
 
 // Writes the mean of K in tenths, or "-" if there is none.
@@ -89,6 +91,7 @@ fn put_mean(out: &mut [u8], at: usize, gates: u64, sum: u64) -> usize
 }
 
 // Makes the last line: records read whole, the numbers of G, N and S, and the mean.
+#[tactic(auto, using(text::proofs::DecimalLaws::decimal_twenty, crate::proofs::RoomLaws::mean_most), unfolding(crate::specs::Lines::last_line))]
 pub fn last_line(out: &mut [u8], tally: Tally) -> usize
     requires { Within tally × (line_room ≤ length out.old) }
     ensures put { Put out.old 0 (last_line tally) out.new result }
@@ -108,10 +111,6 @@ pub fn too_long_line(out: &mut [u8]) -> usize
     requires { line_room ≤ length out.old }
     ensures { Put out.old 0 too_long_line out.new result }
 {
-    out[0] = b'R';
-    out[1] = b' ';
-    out[2] = b'1';
-    out[3] = b'5';
-    out[4] = b'\n';
+    out[..5].copy_from_slice(b"R 15\n");
     5
 }

@@ -33,15 +33,14 @@ pub fn with_record(tally: Tally, stage: Stage, k: u32) -> Tally
     ensures { result ≡ counted stage k tally }
 {
     let mut next = tally;
-    next.records = next.records + 1;
+    next.records += 1;
     match stage {
-        Stage::Open => next.opens = next.opens + 1,
+        Stage::Open => next.opens += 1,
         Stage::Found => {
-            next.gates = next.gates + 1;
-            next.sum = next.sum + k as u64;
+            next.gates += 1;
+            next.sum += k as u64;
         }
-        Stage::Looped => next.witnesses = next.witnesses + 1,
-        Stage::Binate => next.witnesses = next.witnesses + 1,
+        Stage::Looped | Stage::Binate => next.witnesses += 1,
     }
     next
 }

@@ -23,14 +23,8 @@ fn put_byte(out: &mut [u8; 65600], at: usize, byte: u8) -> usize {
 // Puts bytes in base sixteen.
 fn put_bytes(out: &mut [u8; 65600], at: usize, digits: &[u8]) -> usize {
     let mut next = at;
-    let mut place: usize = 1;
-    while place < digits.len() {
-        next = put_byte(
-            out,
-            next,
-            digit(digits[place - 1]) << 4 | digit(digits[place]),
-        );
-        place = place + 2;
+    for pair in digits.chunks_exact(2) {
+        next = put_byte(out, next, digit(pair[0]) << 4 | digit(pair[1]));
     }
     next
 }
@@ -47,11 +41,9 @@ fn put_part(out: &mut [u8; 65600], at: usize, times: u16, digits: &[u8]) -> usiz
 // Puts the parts of a line, from the start on, and returns their length.
 fn put_parts(out: &mut [u8; 65600], line: &[u8]) -> usize {
     let mut next: usize = 0;
-    let mut k: usize = 1;
-    while k < WORDS {
+    for k in (1..WORDS).step_by(2) {
         let times = number(word(line, k));
         next = put_part(out, next, times, word(line, k + 1));
-        k = k + 2;
     }
     next
 }

@@ -5,16 +5,13 @@
 mod input;
 mod inputs;
 
-use papers::line::line_end;
+use papers::line::text_of;
 use std::io;
 
 // Runs each line.
 fn run(rt: &impl Print, lines: &[u8]) -> io::Result<()> {
-    let mut at: usize = 0;
-    while at < lines.len() {
-        let end = line_end(lines, at);
-        input::run(rt, &lines[at..end])?;
-        at = end + 1;
+    for line in lines.split_inclusive(|byte| *byte == b'\n') {
+        input::run(rt, text_of(line))?;
     }
     Ok(())
 }

@@ -1,9 +1,9 @@
 -- The calls that take the numbers of a gate or a witness out of a record, make a record of numbers, check numbers against a table, make a
 -- table's fresh job, or tell how far a job has come (docs/FORMAT.md, "Calls"). No document has these calls. Each goes by what reading gives
--- first, then `other_kind`, then its own numbers. Definitions only. Assumes nothing.
-use Rattle.std.specs.Prelude.{List, ℕ, ℤ}
+-- first, then 100, then its own numbers. Definitions only. Assumes nothing.
+use Rattle.std.specs.Prelude.{List, ℕ, ℤ, Ok}
 use Rattle.types.specs.declared.gate.Gate.{Gate}
-use Rattle.refusal.specs.Refusal.{Answered, answered, and_then}
+use Rattle.refusal.specs.Refusal.{Answered, and_then}
 use Rattle.job.specs.declared.job.Job.{Job}
 use Rattle.job.specs.Machine.{fresh}
 use Rattle.writers.specs.Calls.{fitted}
@@ -42,4 +42,4 @@ fresh_record s room = and_then (table_read s) (λ t. outcome_written room (fresh
 
 -- kind 4 or 6, the corrections made so far
 abbrev pub corrections : List ℕ → Answered ℕ
-corrections s = and_then (job_read s) (λ (j : Job). answered j.state.k)
+corrections s = and_then (job_read s) (λ (j : Job). Ok j.state.k)

@@ -1,2 +1,2 @@
--- what a call returns and leaves in the lent buffer, from what it comes to
+-- what a call that writes answers, returns and leaves in the lent buffer, and how long a record is
 pub mod ResultLaws

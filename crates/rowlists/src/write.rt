@@ -13,15 +13,7 @@ fn filled(counts: &[u32; 256], rows: usize) -> u32
     requires { rows ≤ 256 }
     ensures { result ≡ filled_from counts.now rows 0 }
 {
-    let mut pairs: u32 = 0;
-    let mut row: usize = 0;
-    while row < rows {
-        if 0 < counts[row] {
-            pairs = pairs + 1;
-        }
-        row = row + 1;
-    }
-    pairs
+    counts[..rows].iter().filter(|count| 0 < **count).count() as u32
 }
 
 // Returns how many bytes the pair of a row takes: none where its count is 0.
@@ -40,10 +32,8 @@ pub fn rows_length(counts: &[u32; 256], rows: usize) -> usize
     ensures { result ≡ length (row_list_bytes counts.now) }
 {
     let mut length = number_length(filled(counts, rows));
-    let mut row: usize = 0;
-    while row < rows {
-        length = length + pair_length(row as u32, counts[row]);
-        row = row + 1;
+    for (row, count) in counts[..rows].iter().enumerate() {
+        length += pair_length(row as u32, *count);
     }
     length
 }
@@ -67,10 +57,8 @@ pub fn put_rows(out: &mut [u8], counts: &[u32; 256], rows: usize) -> usize
     ensures { Put out.old 0 (row_list_bytes counts.now) out.new result }
 {
     let mut here = put_number(out, 0, filled(counts, rows));
-    let mut row: usize = 0;
-    while row < rows {
-        here = put_pair(out, here, row as u32, counts[row]);
-        row = row + 1;
+    for (row, count) in counts[..rows].iter().enumerate() {
+        here = put_pair(out, here, row as u32, *count);
     }
     here
 }

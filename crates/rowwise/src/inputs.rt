@@ -1,12 +1,12 @@
 // The kinds of a table's inputs.
 ghost use Rattle.std.specs.Prelude.{◌≡◌, ◌&&◌, ◌≤◌, ◌<◌};
-ghost use Rattle.table.specs.Inputs.{lowest_of, kind_by, input_kind_at, kinds_of};
+ghost use Rattle.table.specs.Inputs.{kind_by, input_kind_at, kinds_of};
 ghost use Rattle.function.specs.Turns.{turns_at, first_turn};
 ghost use Rattle.table.specs.Table.{bit_at, function_of};
 
-use table::lowest::{Lowest, is_found};
+use std::array;
 use table::table::{row_bit, row_count};
-use types::inputs::{InputKind, Place};
+use types::inputs::InputKind;
 use types::table::Table;
 
 // Whether two rows are cared for.
@@ -36,39 +36,28 @@ fn turns_at(values: &[u8; 32], cares: &[u8; 32], to: bool, place: usize, row: us
 }
 
 // Returns the lowest row in which the place's input turns the value to `to`.
-pub fn first_turn(table: Table, to: bool, place: usize) -> Lowest
+pub fn first_turn(table: Table, to: bool, place: usize) -> Option<usize>
     requires { (table.n ≤ 8) × (place < 8) }
-    ensures { result ≡ lowest_of (first_turn (function_of table) to place) }
+    ensures { result ≡ first_turn (function_of table) to place }
 {
-    let values = table.bytes;
-    let cares = table.cares;
     let rows = row_count(table.n);
-    let mut row: usize = 0;
-    while row < rows {
-        if turns_at(&values, &cares, to, place, row) {
-            return Lowest::At(row);
+    for row in 0..rows {
+        if turns_at(&table.bytes, &table.cares, to, place, row) {
+            return Some(row);
         }
-        row = row + 1;
     }
-    Lowest::Nowhere
+    None
 }
 
 // Returns the kind by whether the input rises somewhere and whether it falls somewhere.
 fn kind_by(rises: bool, falls: bool) -> InputKind
     ensures { result ≡ kind_by rises falls }
 {
-    if rises {
-        if falls {
-            InputKind::Binate
-        } else {
-            InputKind::Rising
-        }
-    } else {
-        if falls {
-            InputKind::Falling
-        } else {
-            InputKind::Idle
-        }
+    match (rises, falls) {
+        (true, true) => InputKind::Binate,
+        (true, false) => InputKind::Rising,
+        (false, true) => InputKind::Falling,
+        (false, false) => InputKind::Idle,
     }
 }
 
@@ -80,25 +69,15 @@ pub fn input_kind_at(table: Table, place: usize) -> InputKind
     if (table.n as usize) <= place {
         return InputKind::Idle;
     }
-    let rises = is_found(first_turn(table, true, place));
-    let falls = is_found(first_turn(table, false, place));
+    let rises = first_turn(table, true, place).is_some();
+    let falls = first_turn(table, false, place).is_some();
     kind_by(rises, falls)
 }
 
 // Returns the kinds of all eight places.
-pub fn all_kinds(table: Table) -> [Place; 8]
+pub fn all_kinds(table: Table) -> [InputKind; 8]
     requires { table.n ≤ 8 }
     ensures { result ≡ kinds_of table }
 {
-    let mut places = [Place {
-        kind: InputKind::Idle,
-    }; 8];
-    let mut place: usize = 0;
-    while place < 8 {
-        places[place] = Place {
-            kind: input_kind_at(table, place),
-        };
-        place = place + 1;
-    }
-    places
+    array::from_fn(|place| input_kind_at(table, place))
 }

@@ -17,14 +17,7 @@ pub fn counts_within(counts: &[u32; 256], from: usize, limit: u32) -> bool
     requires { (length counts.now ≡ 256) × (from ≤ 256) }
     ensures { result ≡ all_at_most limit (drop from counts.now) }
 {
-    let mut row = from;
-    while row < 256 {
-        if limit < counts[row] {
-            return false;
-        }
-        row = row + 1;
-    }
-    true
+    counts[from..].iter().all(|count| *count <= limit)
 }
 
 // Whether a row may have this count: it is cared for, or the count is 0.
@@ -32,10 +25,7 @@ fn may_count(table: Table, row: usize, count: u32) -> bool
     requires { row < 256 }
     ensures { result ≡ (cared table row || eqb count 0) }
 {
-    if count == 0 {
-        return true;
-    }
-    row_cared(table, row)
+    count == 0 || row_cared(table, row)
 }
 
 // Whether no row that is not cared for has a count.
@@ -47,40 +37,28 @@ pub fn counts_cared(table: Table, counts: &[u32; 256]) -> bool
         return true;
     }
     let rows = row_count(table.n);
-    let mut row: usize = 0;
-    while row < rows {
-        if !may_count(table, row, counts[row]) {
+    for (row, count) in counts[..rows].iter().enumerate() {
+        if !may_count(table, row, *count) {
             return false;
         }
-        row = row + 1;
     }
     true
 }
 
-// Whether the counts are the same.
+// Whether the counts are the same. Kept beside `==`: theorems speak of its definition.
 pub fn same_counts(x: &[u32; 256], y: &[u32; 256]) -> bool
     ensures { result ≡ same_counts x.now y.now }
 {
-    let mut row: usize = 0;
-    while row < 256 {
-        if x[row] != y[row] {
-            return false;
-        }
-        row = row + 1;
-    }
-    true
+    x == y
 }
 
 // Whether the counts are all 0, one is too large, or one past the table is not 0.
+#[tactic(auto, unfolding(table::specs::Witness::unfit))]
 pub fn witness_unfit(table: Table, witness: Witness) -> bool
     requires { table.n ≤ 8 }
     ensures { result ≡ unfit table witness }
 {
-    if counts_within(&witness.counts, 0, 0) {
-        return true;
-    }
-    if !counts_within(&witness.counts, 0, COUNT_LIMIT) {
-        return true;
-    }
-    !counts_within(&witness.counts, row_count(table.n), 0)
+    counts_within(&witness.counts, 0, 0)
+        || !counts_within(&witness.counts, 0, COUNT_LIMIT)
+        || !counts_within(&witness.counts, row_count(table.n), 0)
 }

@@ -4,7 +4,7 @@
 use mathlib.Core.Path.{◌≡◌, sym, ◌∙◌, ap, ap₂}
 use mathlib.Core.Bool.{Bool, false, ◌&&◌}
 use mathlib.Core.List.{List}
-use mathlib.Core.Option.{Option}
+use Rattle.std.specs.Prelude.{Option, Some, None}
 use Prim.Native.Nat.{ℕ, suc, ◌+◌, ◌-◌, ◌^◌, ◌≤◌, ◌<◌}
 use native.Mathlib.Decide.{dec_le}
 use native.Mathlib.Omega.{arith}
@@ -13,15 +13,12 @@ use lib.Seq.{get_or-set_same, get_or-set_other}
 use lib.IntN.{ℤ, pos, ◌+ℤ◌}
 use lib.Signed.{lt_z}
 use borrow.Author.Tests.{lt-ltb, le-ltb}
-use Rattle.table.proofs.InputLaws.{lowest_some, lowest_none}
 use Rattle.numbers.specs.Tests.{first_from}
 use Rattle.numbers.specs.Tabulate.{Holds}
 use Rattle.numbers.proofs.FirstLaws.{IsFirst, first_some, first_none}
 use Rattle.types.specs.declared.table.Table.{Table}
-use Rattle.table.specs.declared.lowest.Lowest.TheVariants.{At, Nowhere}
 use Rattle.table.specs.Table.{bit_at, rows, value, cared, function_of}
 use Rattle.function.specs.Gate.{distance}
-use Rattle.table.specs.Inputs.{lowest_of}
 use Rattle.table.proofs.TableLaws.{level_past}
 use Rattle.types.specs.declared.vector.Vector.{Vector}
 use Rattle.function.specs.Failing.{margin, fails, failing}
@@ -130,9 +127,9 @@ module _ (ws : List ℤ) (th : ℤ) (cares values : List ℕ) (place : ℕ) (dis
         by (no low) = passed.none_fails r (omega arith) (omega (arith, low))
 
     -- a row that is found in the block is the lowest that fails
-    pub block_row : (q : ℕ) → lowest_of (block_search cares values ws place distances) ≡ At q → IsFirst (fails_at cares values (row_distance ws th)) (2 ^ suc place) 0 q
+    pub block_row : (q : ℕ) → block_search cares values ws place distances ≡ Some q → IsFirst (fails_at cares values (row_distance ws th)) (2 ^ suc place) 0 q
     block_row q e =
-        let f = first_some (fails_at cares values (block_distance ws place distances)) (2 ^ place) (2 ^ place) q (lowest_some _ q e) in
+        let f = first_some (fails_at cares values (block_distance ws place distances)) (2 ^ place) (2 ^ place) q e in
         record {
           start = omega arith;
           inside = omega arith;
@@ -141,10 +138,10 @@ module _ (ws : List ℤ) (th : ℤ) (cares values : List ℕ) (place : ℕ) (dis
         }
 
     -- where none is found, the block is passed
-    pub block_passed : (new : List ℤ) → lowest_of (block_search cares values ws place distances) ≡ Nowhere → Holds (block_distance ws place distances) (2 ^ suc place) new
+    pub block_passed : (new : List ℤ) → block_search cares values ws place distances ≡ None → Holds (block_distance ws place distances) (2 ^ suc place) new
         → Passed cares values (row_distance ws th) 0 (2 ^ suc place) new
     block_passed new e h =
-        let f = first_none (fails_at cares values (block_distance ws place distances)) (2 ^ place) (2 ^ place) (lowest_none _ e) in
+        let f = first_none (fails_at cares values (block_distance ws place distances)) (2 ^ place) (2 ^ place) e in
         record {
           holds = λ r l. h r l ∙ block_distance_lem r l;
           none_fails = λ r g l. none_before (2 ^ suc place) (omega arith) (λ p high k. f p high (omega arith)) r l;
@@ -162,18 +159,17 @@ module _ (t : Table) (v : Vector) (cares values : List ℕ) (read : (cares ≡ t
       ap₂ (λ (c y : Bool). c && lt_z (margin y (distance v.a v.b (level 2 r))) (pos 1)) care is
 
   -- the lowest of the rows below m that fails is what is found
-  pub scan_row : (m q : ℕ) → m ≤ rows t → IsFirst (fails_at cares values (row_distance v.a v.b)) m 0 q → At q ≡ lowest_of (failing (function_of t) v)
+  pub scan_row : (m q : ℕ) → m ≤ rows t → IsFirst (fails_at cares values (row_distance v.a v.b)) m 0 q → Some q ≡ failing (function_of t) v
   scan_row m q h f =
       sym
-      (ap lowest_of
       (failing_at (function_of t) v q
       record {
         start = omega arith;
         inside = omega arith;
         passes = sym (fails_read q) ∙ f.passes;
         before = λ r l k. sym (fails_read r) ∙ f.before r l k;
-      }))
+      })
 
   -- where no row fails, nothing is
-  pub scan_nowhere : ((r : ℕ) → r < rows t → fails_at cares values (row_distance v.a v.b) r ≡ false) → Nowhere ≡ lowest_of (failing (function_of t) v)
-  scan_nowhere p = sym (ap lowest_of (none_failing (function_of t) v (λ r h. sym (fails_read r) ∙ p r h)))
+  pub scan_nowhere : ((r : ℕ) → r < rows t → fails_at cares values (row_distance v.a v.b) r ≡ false) → None ≡ failing (function_of t) v
+  scan_nowhere p = sym (none_failing (function_of t) v (λ r h. sym (fails_read r) ∙ p r h))

@@ -6,12 +6,10 @@ ghost use Rattle.numbers.specs.Tests.{first_from};
 ghost use Rattle.numbers.specs.Tabulate.{Holds};
 ghost use Rattle.table.specs.Table.{bit_at, function_of};
 ghost use Rattle.table.specs.Gate.{weight_limit, in_range};
-ghost use Rattle.table.specs.Inputs.{lowest_of};
 ghost use Rattle.function.specs.Failing.{margin, failing};
 ghost use Rattle.scan.specs.Scan.{fails_at, doubled, values_below};
 ghost use Rattle.function.specs.Gate.{distance};
 
-use table::lowest::Lowest;
 use table::table::row_bit;
 use types::table::Table;
 use types::vector::Vector;
@@ -25,10 +23,8 @@ fn store_byte(values: &mut [bool; 256], bytes: &[u8; 32], at: usize)
     if byte == 0 {
         return;
     }
-    let mut bit: usize = 0;
-    while bit < 8 {
+    for bit in 0..8 {
         values[8 * at + bit] = (byte >> bit) % 2 == 1;
-        bit = bit + 1;
     }
 }
 
@@ -38,10 +34,8 @@ pub fn byte_values(bytes: &[u8; 32], count: usize) -> [bool; 256]
     ensures { result ≡ values_below (8 * count) bytes.now }
 {
     let mut values = [false; 256];
-    let mut byte: usize = 0;
-    while byte < count {
+    for byte in 0..count {
         store_byte(&mut values, bytes, byte);
-        byte = byte + 1;
     }
     values
 }
@@ -72,23 +66,21 @@ fn search_block(
     values: &[u8; 32],
     half: usize,
     weight: i32,
-) -> Lowest
+) -> Option<usize>
     requires half_bound { (half ≤ 128) × (half + half ≤ length distances.old) }
     requires sums_fit { (r : ℕ) → r < half → nat_abs (get_or distances.old r (pos 0)) + nat_abs weight < 2 ^ 31 }
-    ensures value { result ≡ lowest_of (first_from (fails_at cares.now values.now (doubled half weight distances.old)) half half) }
-    ensures holds { result ≡ Lowest.Nowhere → Holds (doubled half weight distances.old) (half + half) distances.new }
+    ensures value { result ≡ first_from (fails_at cares.now values.now (doubled half weight distances.old)) half half }
+    ensures holds { result ≡ None → Holds (doubled half weight distances.old) (half + half) distances.new }
 {
-    let mut at: usize = 0;
-    while at < half {
+    for at in 0..half {
         let row = half + at;
         let distance = distances[at] + weight;
         distances[row] = distance;
         if fails_in(cares, values, distance as i64, row) {
-            return Lowest::At(row);
+            return Some(row);
         }
-        at = at + 1;
     }
-    Lowest::Nowhere
+    None
 }
 
 // Returns the lowest failing row. What `distances` held does not matter: it is room to work in.
@@ -98,24 +90,21 @@ pub fn first_failing(
     values: &[u8; 32],
     table: Table,
     v: Vector,
-) -> Lowest
+) -> Option<usize>
     requires n_bound { (table.n ≤ 8) × (in_range weight_limit 8 v.a v.b ≡ true) }
     requires cares_value { (cares.now ≡ table.cares) × (values.now ≡ table.bytes) }
-    ensures { result ≡ lowest_of (failing (function_of table) v) }
+    ensures { result ≡ failing (function_of table) v }
 {
     let first = 0 - v.b;
     if fails_in(cares, values, first as i64, 0) {
-        return Lowest::At(0);
+        return Some(0);
     }
     distances[0] = first;
     let n = table.n as usize;
-    let mut place: usize = 0;
-    while place < n {
-        let block = search_block(distances, cares, values, 1usize << place, v.a[place]);
-        if let Lowest::At(row) = block {
-            return Lowest::At(row);
+    for (place, weight) in v.a[..n].iter().enumerate() {
+        if let Some(row) = search_block(distances, cares, values, 1usize << place, *weight) {
+            return Some(row);
         }
-        place = place + 1;
     }
-    Lowest::Nowhere
+    None
 }

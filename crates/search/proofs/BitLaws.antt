@@ -3,13 +3,14 @@ use mathlib.Core.Path.{◌≡◌, ◌∙◌, ap, ap₂}
 use mathlib.Core.Bool.{not, ◌&&◌}
 use mathlib.Core.List.{List}
 use Prim.Native.Nat.{ℕ, ◌-◌, ◌*◌, ◌/◌, ◌%◌, ◌^◌, ◌≤◌, ◌<◌}
+use native.Mathlib.Nat.{add-zero}
 use native.Mathlib.Omega.{arith}
 use lib.Bits.{bit_and}
 use lib.ListN.{get_or, drop, get_or-append}
 use Rattle.numbers.specs.Packed.{bit_in}
 use Rattle.numbers.specs.Tabulate.{tabulate}
 use Rattle.numbers.proofs.PackedLaws.{packed_digits, packed_bit, packed_not, packed_and}
-use Rattle.numbers.proofs.TabulateLaws.{filled, length_tabulate, get_d_tabulate}
+use Rattle.numbers.proofs.TabulateLaws.{filled, length_tabulate, get_d_tabulate, get_d_unfilled}
 use Rattle.table.specs.Table.{bit_at}
 use Rattle.table.proofs.RowLaws.{ByteArray}
 
@@ -32,6 +33,10 @@ made_bit f old m r made h =
     rw made
     (ap (λ (x : ℕ). bit_in x (r % 8))
     (get_or-append (tabulate m f) (drop m old) 0 (r / 8) (omega (arith, length_tabulate f m)) ∙ get_d_tabulate f m (r / 8) 0 (omega arith)))
+
+-- the byte at the place up to which they are stored is as it came
+pub unmade : {bytes : List ℕ} (f : ℕ → ℕ) (old : List ℕ) (m : ℕ) → bytes ≡ filled f old m → get_or bytes m 0 ≡ get_or old m 0
+unmade f old m made = ap (λ (l : List ℕ). get_or l m 0) made ∙ rw add-zero at (get_d_unfilled f old m 0 0)
 
 pub not_at : {bytes xs : List ℕ} (old : List ℕ) (m : ℕ) → ByteArray xs → m ≤ 32 → bytes ≡ filled (λ i. 2 ^ 8 - 1 - get_or xs i 0) old m
     → (r : ℕ) → r < 8 * m → bit_at bytes r ≡ not (bit_at xs r)

@@ -3,7 +3,7 @@
 use mathlib.Core.Path.{◌≡◌, sym, ◌∙◌, ap, ap₂}
 use mathlib.Core.Bool.{Bool, true, false, ◌&&◌}
 use mathlib.Core.List.{List, [], ◌∷◌}
-use mathlib.Core.Option.{some, none}
+use Rattle.std.specs.Prelude.{Some, None}
 use Prim.Native.Nat.{ℕ, zero, suc, ◌+◌, ◌*◌, ◌-◌, ◌/◌, ◌%◌, ◌^◌, ◌≤◌, ◌<◌}
 use native.Mathlib.Nat.{mod-lt, mod-eq_of_lt}
 use native.Mathlib.Decide.{dec_le}
@@ -34,9 +34,6 @@ use Rattle.search.specs.Keys.{goes_true}
 
 -- ---- how many blocks there are
 
-pub blocks_le : (n : ℕ) → n ≤ 8 → blocks_of n ≤ 8
-blocks_le n h = pow_mono {i = n - 5} {j = 3} (omega arith)
-
 -- the blocks have a row for each of the table's
 pub rows_lanes : (n : ℕ) → 2 ^ n ≤ lane_rows n
 rows_lanes n = omega (arith, pow-add 2 5 (n - 5), pow_mono {i = n} {j = 5 + (n - 5)} (omega arith))
@@ -49,7 +46,7 @@ past_block n r h k = by (dec_le 5 n)
     by (yes full) =
         let split : 5 + (n - 5) ≡ n = omega arith in
         omega (arith, pow-add 2 5 (n - 5), ap (λ (x : ℕ). 2 ^ x) split)
-    by (no few) = let none : n - 5 ≡ 0 = omega (arith, few) in absurd (omega (arith, ap (λ (x : ℕ). 2 ^ x) none))
+    by (no few) = let None : n - 5 ≡ 0 = omega (arith, few) in absurd (omega (arith, ap (λ (x : ℕ). 2 ^ x) None))
 
 -- ---- the distance of a row, from the sums
 
@@ -127,8 +124,8 @@ module _ (t : Table) (v : Vector) where
         by : (place : ℕ) → place < length v.a → Dec (t.n ≤ place)
             → pos (level 2 r place) *ℤ get_or v.a place (pos 0) ≡ pos (level 2 (r % rows t) place) *ℤ get_or v.a place (pos 0)
         by place h (yes past) =
-            let none = in_range_past ((in_range_correct k t.n v.a v.b).0 range) place past (omega arith) in
-            rw none (*ℤ-zero (pos (level 2 r place)) ∙ sym (*ℤ-zero (pos (level 2 (r % rows t) place))))
+            let None = in_range_past ((in_range_correct k t.n v.a v.b).0 range) place past (omega arith) in
+            rw None (*ℤ-zero (pos (level 2 r place)) ∙ sym (*ℤ-zero (pos (level 2 (r % rows t) place))))
         by place h (no below) = ap (λ (x : ℕ). pos x *ℤ get_or v.a place (pos 0)) (level_cut t.n r place (omega (arith, below)))
 
     -- so it fails where that row does
@@ -152,7 +149,7 @@ module _ (t : Table) (v : Vector) where
             absurd (no_true (sym passes ∙ row_fails_lem cut small ∙ sym (lane_fails_lem r) ∙ first.passes))
 
     -- and the table's lowest; it goes as what it is, since it is cared for
-    pub lane_failing : (m r : ℕ) → IsFirst lane_fails m 0 r → (failing (function_of t) v ≡ some r) × (goes_true t r ≡ value t r)
+    pub lane_failing : (m r : ℕ) → IsFirst lane_fails m 0 r → (failing (function_of t) v ≡ Some r) × (goes_true t r ≡ value t r)
     unfolding lane_fails lane_value
     lane_failing m r first =
         let inside = lane_first m r first in (
@@ -167,5 +164,5 @@ module _ (t : Table) (v : Vector) where
         )
 
     -- where no row of the blocks fails, no row of the table does
-    pub lanes_pass : ((r : ℕ) → r < lane_rows t.n → lane_fails r ≡ false) → failing (function_of t) v ≡ none
+    pub lanes_pass : ((r : ℕ) → r < lane_rows t.n → lane_fails r ≡ false) → failing (function_of t) v ≡ None
     lanes_pass pass = none_failing (function_of t) v (λ r h. sym (row_fails_lem r h) ∙ pass r (omega (arith, rows_lanes t.n)))

@@ -3,7 +3,8 @@
 use mathlib.Core.Path.{◌≡◌, refl, sym, ◌∙◌, ap}
 use mathlib.Core.Bool.{Bool, true, false, not, cond, ◌&&◌}
 use mathlib.Core.List.{List}
-use mathlib.Core.Option.{Option, some, none}
+use Rattle.std.specs.Int.{int_min}
+use Rattle.std.specs.Prelude.{Option, Some, None}
 use Prim.Native.Nat.{ℕ, zero, suc, ◌+◌, ◌*◌, ◌-◌, ◌^◌, ◌≤◌, ◌<◌}
 use native.Mathlib.Numerals.{add-one}
 use native.Mathlib.Decide.{dec_le}
@@ -24,10 +25,9 @@ use Rattle.numbers.proofs.FirstLaws.{IsFirst, first_some, first_none}
 use Rattle.types.specs.declared.table.Table.{Table}
 use Rattle.function.specs.Failing.{margin}
 use Rattle.numbers.specs.Tabulate.{Holds}
-use Rattle.scan.proofs.ScanLaws.{holds_more}
 use Rattle.lanes.specs.Blocks.{blocks_of, lane_value, lane_cared}
 use Rattle.lanes.specs.Codes.{row_code}
-use Rattle.search.proofs.BlockLaws.{blocks_le}
+use Rattle.lanes.proofs.WeightLaws.{blocks_le}
 use Rattle.search.specs.Keys.{one_of, key_of, goes_true, flipped, flipped_by, least_below}
 
 -- ---- bits
@@ -55,8 +55,8 @@ pub key_bits : (difference key : ℤ) → SFits w16 difference → SFits w16 key
 unfolding flipped_by
 key_bits (pos n) key d h =
     let left : n < 32768 = d.sfits in
-    let none : bit_and n 32768 ≡ 0 = omega (arith, and_high n 1 15) in
-    rw (none, xor_zero_l, to_z-of_z h, le-ltb n 0 (omega arith))
+    let None : bit_and n 32768 ≡ 0 = omega (arith, and_high n 1 15) in
+    rw (None, xor_zero_l, to_z-of_z h, le-ltb n 0 (omega arith))
 key_bits (negsuc n) key d h =
     let left : n < 32768 = d.sfits in
     let one : bit_and (65536 - suc n) 32768 ≡ 32768 = omega (arith, and_high (65536 - suc n) 1 15) in
@@ -72,17 +72,9 @@ least_suc : (m : ℕ) (f : ℕ → ℤ) → least_below (suc m) f ≡ cond (lt_z
 unfolding least_below
 least_suc m f = refl
 
-module _ {least x : ℤ} (m : ℕ) (f : ℕ → ℤ) (so_far : least ≡ least_below m f) (next : x ≡ f m) where
-  least_next : (lower : Bool) → lt_z x least ≡ lower → cond lower x least ≡ least_below (m + 1) f
-  least_next lower e = sym (rw (add-one, least_suc, ← so_far, ← next, e))
-
-  -- a lower value takes the place of the least so far
-  pub least_taken : lt_z x least ≡ true → x ≡ least_below (m + 1) f
-  least_taken e = least_next true e
-
-  -- another leaves it
-  pub least_kept : lt_z x least ≡ false → least ≡ least_below (m + 1) f
-  least_kept e = least_next false e
+-- the lower of the least so far and of the next value is the next least
+pub least_more : {least x : ℤ} (m : ℕ) (f : ℕ → ℤ) → least ≡ least_below m f → x ≡ f m → int_min least x ≡ least_below (m + 1) f
+least_more m f so_far next = rw (add-one, least_suc, ← so_far, ← next) refl
 
 -- the lower of two is at most each
 lower_le : (a b : ℤ) (lower : Bool) → lt_z a b ≡ lower → (cond lower a b ≤ℤ a) × (cond lower a b ≤ℤ b)
@@ -144,27 +136,6 @@ one_size t r = by (lane_cared t r) (lane_value t r)
     by true true = omega arith
     by true false = omega arith
     by false y = omega arith
-
--- a loop over some rows of 256 has stored the values of f below `row`
-pub record Stored (f : ℕ → ℤ) (rows row : ℕ) (list : List ℤ) : Type 0 where
-  pub most : rows ≤ 256
-  pub within : row ≤ rows
-  pub size : length list ≡ 256
-  pub holds : Holds f row list
-
--- before the first of the rows of the blocks it has stored none
-pub stored_none : (f : ℕ → ℤ) {n blocks : ℕ} {list : List ℤ} → n ≤ 8 → blocks ≡ blocks_of n → length list ≡ 256 → Stored f (32 * blocks) 0 list
-stored_none f {n} h e size = record { most = omega (arith, e, blocks_le n h); within = omega arith; size = size; holds = λ r l. absurd (omega arith) }
-
--- a store of the row's value is one row more
-pub stored_more : {x : ℤ} (f : ℕ → ℤ) {rows row : ℕ} {list : List ℤ} → row < rows → x ≡ f row → Stored f rows row list
-    → Stored f rows (row + 1) (set list row x)
-stored_more f {row = row} {list = list} l e s = record {
-  most = s.most;
-  within = omega arith;
-  size = simp length-set s.size;
-  holds = holds_more f row list (omega (arith, s.size, s.most)) e s.holds;
-}
 
 -- ---- the key of a row
 
@@ -267,8 +238,8 @@ module _ (m : ℕ) (fails : ℕ → Bool) (code : ℕ → ℕ) (key : ℕ → �
     least_fails e = by (first_from fails m 0) refl
       where
         by : (o : Option ℕ) → first_from fails m 0 ≡ o → (q : ℕ) × IsFirst fails m 0 q × (least_below m key ≡ pos (code q) -ℤ pos 32768)
-        by none None-found =
+        by None None-found =
             let passes = first_none fails m 0 None-found in
             let high = least_ge m key (pos 0) (pos_nonneg 32767) (λ q h. key_passes q h (passes q (omega arith) (omega arith))) in
             absurd (omega integers)
-        by (some q) found = let first = first_some fails m 0 q found in (q, first, least_of q first)
+        by (Some q) found = let first = first_some fails m 0 q found in (q, first, least_of q first)

@@ -6,6 +6,7 @@ use mathlib.Core.List.{List}
 use Prim.Native.Nat.{ℕ, zero, suc, ◌+◌, ◌*◌, ◌-◌, ◌≤◌, ◌<◌}
 use native.Mathlib.Decide.{dec_le}
 use native.Mathlib.Omega.{arith}
+use Rattle.std.specs.Prelude.{Option, Some, None}
 use lib.ListN.{length, get_or, take, drop, length-take, length-drop}
 use lib.Seq.{get_or-take, get_or-drop}
 use lib.IntN.{ℤ, pos, nat_abs, ◌+ℤ◌, ◌-ℤ◌}
@@ -23,7 +24,8 @@ use Rattle.lanes.specs.Sums.{vector_sums, Narrow}
 use Rattle.lanes.specs.Codes.{row_code, found_code}
 use Rattle.search.specs.Keys.{one_of, key_of, goes_true, least_below, block_key}
 use Rattle.search.proofs.KeyLaws.{keyed, one_size, flipped_back, row_key, least_passes, least_fails}
-use Rattle.search.proofs.BlockLaws.{blocks_le, sums_distance, lane_fails, lane_failing, lanes_pass}
+use Rattle.lanes.proofs.WeightLaws.{blocks_le}
+use Rattle.search.proofs.BlockLaws.{sums_distance, lane_fails, lane_failing, lanes_pass}
 use Rattle.table.specs.Table.{function_of}
 use Rattle.function.specs.Function.{level}
 
@@ -82,13 +84,13 @@ code_rising t h p q l k = by (dec_le q p)
 abbrev pub Passed : Table → List ℤ → ℕ → Type 0
 Passed t sums h = (v : Vector) → sums ≡ vector_sums v → (r : ℕ) → r < 32 * h → lane_fails t v r ≡ false
 
--- a code is what the search gives, by any vector of the sums
-abbrev pub Answers : Table → List ℤ → ℕ → Type 0
-Answers t sums code =
+-- what the search gives, by any vector of the sums
+abbrev pub Answers : Table → List ℤ → Option ℕ → Type 0
+Answers t sums found =
     (k : ℕ) (v : Vector) → length v.a ≡ 8
     → in_range k t.n v.a v.b ≡ true
     → sums ≡ vector_sums v
-    → code ≡ found_code t (failing (function_of t) v)
+    → found ≡ found_code t (failing (function_of t) v)
 
 -- the least key of block h
 abbrev pub least_at : List ℤ → List ℤ → List ℤ → ℕ → ℤ
@@ -155,13 +157,12 @@ module _ (t : Table) (sums ones keys : List ℤ) (few : t.n ≤ 8)
 
       -- where it is negative, it has the code of the lowest failing row
       pub block_found : (code : ℕ) → lt_z (least_at sums ones keys h) (pos 0) ≡ true → pos code ≡ least_at sums ones keys h +ℤ pos 32768
-          → Answers t sums code
+          → Answers t sums (Some code)
       block_found code e known k v eight range is =
           let found = fails_in_lem v is e in
           let row = 32 * h + found.0 in
           let answer = lane_failing t v k eight range (32 * h + 32) row (block_first v is found.0 found.1) in
-          flipped_back _ (block_code t h found.0) code found.2 known
-          ∙ ap (λ (y : Bool). row_code y row) answer.1
+          ap Some (flipped_back _ (block_code t h found.0) code found.2 known ∙ ap (λ (y : Bool). row_code y row) answer.1)
           ∙ sym (ap (found_code t) answer.0)
 
     -- blocks whose least keys are not negative are passed
@@ -170,5 +171,5 @@ module _ (t : Table) (sums ones keys : List ℤ) (few : t.n ≤ 8)
     blocks_passed (suc m) l f = block_passed m (omega arith) (blocks_passed m (omega arith) (λ h k. f h (omega arith))) (f m (omega arith))
 
     -- where every block is passed, nothing is found
-    pub nothing_found : Passed t sums (blocks_of t.n) → Answers t sums 512
+    pub nothing_found : Passed t sums (blocks_of t.n) → Answers t sums None
     nothing_found passed k v eight range is = sym (ap (found_code t) (lanes_pass t v k eight range (λ r l. passed v is r l)))

@@ -16,11 +16,8 @@ fn repeat_rows(bits: &mut [bool; 256], rows: usize)
     ensures repeated { (row : ℕ) → row < 32 → get_or bits.new row false ≡ get_or bits.old (row % rows) false }
     ensures kept { (row : ℕ) → 32 ≤ row → get_or bits.new row false ≡ get_or bits.old row false }
 {
-    let mut row = rows;
-    while row < 32 {
-        let bit = bits[row - rows];
-        bits[row] = bit;
-        row = row + 1;
+    for row in rows..32 {
+        bits[row] = bits[row - rows];
     }
 }
 
@@ -39,12 +36,9 @@ fn free_bytes(table: Table) -> [u8; 32]
     requires { table.n ≤ 8 }
     ensures { (row : ℕ) → row < rows table → bit_at result row ≡ not (cared table row) }
 {
-    let count = byte_count(table.n);
-    let mut frees = [0u8; 32];
-    let mut at: usize = 0;
-    while at < count {
-        frees[at] = !table.cares[at];
-        at = at + 1;
+    let mut frees = table.cares;
+    for byte in &mut frees {
+        *byte = !*byte;
     }
     frees
 }
@@ -54,12 +48,9 @@ fn true_bytes(table: Table) -> [u8; 32]
     requires { table.n ≤ 8 }
     ensures { (row : ℕ) → row < rows table → bit_at result row ≡ (cared table row && value table row) }
 {
-    let count = byte_count(table.n);
-    let mut trues = [0u8; 32];
-    let mut at: usize = 0;
-    while at < count {
-        trues[at] = table.cares[at] & table.bytes[at];
-        at = at + 1;
+    let mut trues = table.cares;
+    for (at, byte) in trues.iter_mut().enumerate() {
+        *byte &= table.bytes[at];
     }
     trues
 }
@@ -83,52 +74,42 @@ fn lane_trues(table: Table) -> [bool; 256]
 }
 
 // Stores what is taken from the distance of each row of the blocks where every row is cared for: 1 where it goes as a true one.
+#[tactic(auto, using(lanes::proofs::WeightLaws::blocks_le))]
 fn store_trues(ones: &mut [i16; 256], table: Table, trues: &[bool; 256])
     requires n_bound { (table.n ≤ 8) × ((row : ℕ) → row < rows table → cared table row ≡ true) }
     requires trues_are { ((row : ℕ) → row < lane_rows table.n → get_or trues.now row false ≡ goes_true table row) × (length ones.old ≡ 256) }
     ensures { Holds (one_of table) (lane_rows table.n) ones.new }
 {
     let rows = 32 * block_count(table.n);
-    let mut row: usize = 0;
-    while row < rows {
-        let one = trues[row] as i16;
-        ones[row] = one;
-        row = row + 1;
+    for row in 0..rows {
+        ones[row] = i16::from(trues[row]);
     }
 }
 
 // Stores what is taken from the distance of each row of the blocks: 1 where it goes as a true one, 16,384 where it is not cared for.
+#[tactic(auto, using(lanes::proofs::WeightLaws::blocks_le))]
 fn store_ones(ones: &mut [i16; 256], table: Table, frees: &[bool; 256], trues: &[bool; 256])
     requires n_bound { (table.n ≤ 8) × ((row : ℕ) → row < lane_rows table.n → get_or frees.now row false ≡ not (lane_cared table row)) }
     requires trues_are { ((row : ℕ) → row < lane_rows table.n → get_or trues.now row false ≡ goes_true table row) × (length ones.old ≡ 256) }
     ensures { Holds (one_of table) (lane_rows table.n) ones.new }
 {
     let rows = 32 * block_count(table.n);
-    let mut row: usize = 0;
-    while row < rows {
-        let one = trues[row] as i16 + frees[row] as i16 * 16384;
-        ones[row] = one;
-        row = row + 1;
+    for row in 0..rows {
+        ones[row] = i16::from(trues[row]) + i16::from(frees[row]) * 16384;
     }
 }
 
 // Stores the key of each row of the blocks.
+#[tactic(auto, using(lanes::proofs::WeightLaws::blocks_le))]
 fn store_keys(keys: &mut [i16; 256], table: Table, trues: &[bool; 256])
     requires n_bound { (table.n ≤ 8) × ((row : ℕ) → row < lane_rows table.n → get_or trues.now row false ≡ goes_true table row) }
     requires keys_len { length keys.old ≡ 256 }
     ensures { Holds (key_of table) (lane_rows table.n) keys.new }
 {
     let rows = 32 * block_count(table.n);
-    let mut row: usize = 0;
-    while row < rows {
-        let double = row as i16 * 2;
-        let key = if trues[row] {
-            double + 1
-        } else {
-            double - 32767 - 1
-        };
-        keys[row] = key;
-        row = row + 1;
+    for row in 0..rows {
+        let flipped = if trues[row] { 1 } else { i16::MIN };
+        keys[row] = row as i16 * 2 + flipped;
     }
 }
 

@@ -20,12 +20,11 @@ fn least_key(sums: &[i16; 40], high: i16, ones: &[i16], keys: &[i16]) -> i16
     requires room { (q : ℕ) → q < 32 → nat_abs (get_or sums.now q (pos 0)) + nat_abs high + nat_abs (get_or ones.now q (pos 0)) < 2 ^ 15 }
     ensures { result ≡ least_below 32 (block_key sums.now high ones.now keys.now) }
 {
-    let mut least: i16 = 32767;
-    let mut row: usize = 0;
-    while row < 32 {
-        let key = ((sums[row] + high - ones[row]) & -32768) ^ keys[row];
-        least = if key < least { key } else { least };
-        row = row + 1;
+    let mut least = i16::MAX;
+    // kept: an index, since the search is slower by a tenth with the lists zipped
+    for row in 0..32 {
+        let key = ((sums[row] + high - ones[row]) & i16::MIN) ^ keys[row];
+        least = least.min(key);
     }
     least
 }
@@ -38,33 +37,24 @@ fn code_of(key: i16) -> usize
     (key as i32 + 32768) as usize
 }
 
-// Returns the code of the lowest failing row, or 512. The first block has no higher input.
-pub fn lowest(sums: &[i16; 40], ones: &[i16; 256], keys: &[i16; 256], table: Table) -> usize
+// Returns the code of the lowest failing row, if a row fails. The first block has no higher input.
+#[tactic(auto, using(lanes::proofs::WeightLaws::blocks_le))]
+pub fn lowest(sums: &[i16; 40], ones: &[i16; 256], keys: &[i16; 256], table: Table) -> Option<usize>
     requires n_bound { (table.n ≤ 8) × Holds (one_of table) (lane_rows table.n) ones.now × Holds (key_of table) (lane_rows table.n) keys.now }
     requires narrow { Narrow 16000 sums.now × (get_or sums.now 32 (pos 0) ≡ pos 0) }
     ensures { (k : ℕ) (v : Vector) → length v.a ≡ 8 → in_range k table.n v.a v.b ≡ true → sums.now ≡ vector_sums v → result ≡ found_code table (failing (function_of table) v) }
 {
-    let all_ones = &ones[..];
-    let all_keys = &keys[..];
-    let first = least_key(sums, 0, &all_ones[..32], &all_keys[..32]);
+    let first = least_key(sums, 0, &ones[..32], &keys[..32]);
     if first < 0 {
-        return code_of(first);
+        return Some(code_of(first));
     }
-    let blocks = block_count(table.n);
-    let mut block: usize = 1;
-    while block < blocks {
+    for block in 1..block_count(table.n) {
         let from = block * 32;
         let end = from + 32;
-        let least = least_key(
-            sums,
-            sums[32 + block],
-            &all_ones[from..end],
-            &all_keys[from..end],
-        );
+        let least = least_key(sums, sums[32 + block], &ones[from..end], &keys[from..end]);
         if least < 0 {
-            return code_of(least);
+            return Some(code_of(least));
         }
-        block = block + 1;
     }
-    512
+    None
 }

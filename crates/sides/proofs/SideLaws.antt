@@ -1,16 +1,22 @@
 -- Laws of the sums over the rows of one side of a table: their bounds, and what an array of them holds. Assumes nothing.
-use mathlib.Core.Path.{◌≡◌, ◌∙◌, ap}
+use mathlib.Core.Path.{◌≡◌, refl, sym, ◌∙◌, ap}
 use mathlib.Core.Bool.{Bool, true, false}
 use mathlib.Core.List.{List}
-use Prim.Native.Nat.{ℕ, zero, suc, ◌*◌, ◌^◌, ◌≤◌, ◌<◌}
+use Prim.Native.Nat.{ℕ, zero, suc, ◌+◌, ◌*◌, ◌^◌, ◌≤◌, ◌<◌}
 use native.Mathlib.Nat.{mul-le-mul_left}
 use native.Mathlib.Omega.{arith}
-use lib.ListN.{get_or}
+use lib.Dec.{eqb}
+use Rattle.std.proofs.Common.{length-take, get_or-take}
+use lib.ListN.{length, get_or, take}
+use lib.Pointwise.{pointwise, bytes_decides}
+use Rattle.std.proofs.lemmas.Bool.Decides.{same_from_decides}
+use borrow.Author.Tests.{eqb-true, eq-eqb}
 use Rattle.numbers.specs.Sum.{sum_below}
-use Rattle.numbers.specs.Tests.{same_bool}
+use Rattle.numbers.specs.Tests.{same_bool, all_below}
 use Rattle.numbers.specs.Tabulate.{tabulate}
 use Rattle.numbers.proofs.SumLaws.{sum_below_most}
-use Rattle.numbers.proofs.TabulateLaws.{get_d_tabulate}
+use Rattle.numbers.proofs.TestLaws.{no_true, not_passed, all_below_at, all_below_from}
+use Rattle.numbers.proofs.TabulateLaws.{length_tabulate, get_d_tabulate, tabulate_get_d, tabulate_ext}
 use Rattle.types.specs.declared.table.Table.{Table}
 use Rattle.function.specs.Function.{level}
 use Rattle.function.specs.Witness.{input_level, only_if, side_sum, count_of}
@@ -56,3 +62,22 @@ side_sum_lt t side counts i h small =
 -- an element of the sums that a call gave
 pub sum_at : {sums : List ℕ} (f : ℕ → ℕ) (i : ℕ) → sums ≡ tabulate 9 f → i < 9 → get_or sums i 0 ≡ f i
 sum_at f i e h = ap (λ (l : List ℕ). get_or l i 0) e ∙ get_d_tabulate f 9 i 0 h
+
+-- the first n + 1 sums that a call gave
+front : {sums : List ℕ} (f : ℕ → ℕ) (n : ℕ) → n ≤ 8 → sums ≡ tabulate 9 f → take (n + 1) sums ≡ tabulate (n + 1) f
+front {sums} f n few e =
+    tabulate_get_d f (n + 1) 0 (take (n + 1) sums) (omega (arith, length-take {A = ℕ}, ap length e, length_tabulate f 9))
+    (λ i h. get_or-take (n + 1) sums i 0 h ∙ sum_at f i e (omega arith))
+
+-- the first n + 1 sums that two calls gave are the same exactly if they are number by number
+pub sums_same : {x y : List ℕ} (f g : ℕ → ℕ) (n : ℕ) → n ≤ 8 → x ≡ tabulate 9 f → y ≡ tabulate 9 g
+    → pointwise eqb (take (n + 1) x) (take (n + 1) y) ≡ all_below (suc n) (λ i. eqb (f i) (g i))
+sums_same {x} {y} f g n few xs ys =
+    rw (front f n few xs, front g n few ys)
+    (same_from_decides _ _ (bytes_decides _ _) (
+      λ p. tabulate_ext f g (n + 1) (λ i h. eqb-true _ _ (all_below_at (suc n) _ p i (omega arith))),
+      λ e. all_below_from (suc n) _ (λ i h. eq-eqb _ _ (at e i (omega arith))),
+    ))
+  where
+    at : tabulate (n + 1) f ≡ tabulate (n + 1) g → (i : ℕ) → i < n + 1 → f i ≡ g i
+    at e i h = sym (get_d_tabulate f (n + 1) i 0 h) ∙ ap (λ (l : List ℕ). get_or l i 0) e ∙ get_d_tabulate g (n + 1) i 0 h

@@ -21,12 +21,5 @@ pub fn is_balanced(table: Table, witness: Witness) -> bool
         return false;
     }
     let n = table.n as usize;
-    let mut input: usize = 0;
-    while input <= n {
-        if trues[input] != falses[input] {
-            return false;
-        }
-        input = input + 1;
-    }
-    cared
+    trues[..=n] == falses[..=n] && cared
 }

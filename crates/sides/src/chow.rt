@@ -35,10 +35,8 @@ pub fn all_chow(table: Table) -> [i32; 8]
 {
     let p = true_rows(table);
     let mut q = [0i32; 8];
-    let mut place: usize = 0;
-    while place < 8 {
-        q[place] = chow_at(table, p, place);
-        place = place + 1;
+    for (place, value) in q.iter_mut().enumerate() {
+        *value = chow_at(table, p, place);
     }
     q
 }

@@ -18,10 +18,8 @@ fn add_levels(sums: &mut [u64; 9], row: usize, count: u64)
 {
     // bit i is the level of input i
     let levels = 2 * row + 1;
-    let mut input: usize = 0;
-    while input < 9 {
-        sums[input] = sums[input] + count * ((levels >> input) % 2) as u64;
-        input = input + 1;
+    for (input, sum) in sums.iter_mut().enumerate() {
+        *sum += count * ((levels >> input) % 2) as u64;
     }
 }
 
@@ -47,10 +45,8 @@ pub fn side_sums(table: Table, side: bool, counts: &[u32; 256]) -> [u64; 9]
     let rows = row_count(table.n);
     let values = table.bytes;
     let mut sums = [0u64; 9];
-    let mut row: usize = 0;
-    while row < rows {
-        add_row(&mut sums, &values, side, row, counts[row]);
-        row = row + 1;
+    for (row, count) in counts[..rows].iter().enumerate() {
+        add_row(&mut sums, &values, side, row, *count);
     }
     sums
 }

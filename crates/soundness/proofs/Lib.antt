@@ -1,2 +1,2 @@
--- tests one after the other
+-- vectors and counts compared whole
 pub mod TestLaws

@@ -1,6 +1,6 @@
 // The test that a state is sound on a table, whatever it holds.
-ghost use Rattle.std.specs.Prelude.{◌≡◌, ◌<◌, ◌≤◌, true, false, not, ◌&&◌, ◌||◌, length, drop, ◌==◌, nat_le};
-ghost use Rattle.numbers.specs.Tests.{all_at_most, is_some};
+ghost use Rattle.std.specs.Prelude.{◌≡◌, ◌<◌, ◌≤◌, true, false, not, ◌&&◌, ◌||◌, length, drop, ◌==◌, nat_le, is_some};
+ghost use Rattle.numbers.specs.Tests.{all_at_most};
 ghost use Rattle.table.specs.Table.{rows, function_of};
 ghost use Rattle.table.specs.Gate.{in_range};
 ghost use Rattle.table.specs.Witness.{CountArray};
@@ -13,10 +13,9 @@ ghost use Rattle.state.specs.Sound.{cap, mark_for, is_traced, is_binate_with, so
 
 use machine::core_state::Core;
 use machine::power::top_power;
-use machine::vector::{same_vector, vector_within};
-use rowwise::witness::{counts_cared, counts_within, same_counts};
+use machine::vector::vector_within;
+use rowwise::witness::{counts_cared, counts_within};
 use scan::scan::first_failing;
-use table::lowest::{Lowest, is_found};
 use table::table::row_count;
 use trace::traced::is_traced;
 use types::stage::Stage;
@@ -32,31 +31,25 @@ fn some_fails(table: Table, core: Core) -> bool
     requires { (table.n ≤ 8) × (core.k ≤ cap) × (in_range core.k table.n core.v.a core.v.b ≡ true) }
     ensures { result ≡ is_some (failing (function_of table) core.v) }
 {
-    let cares = table.cares;
-    let values = table.bytes;
     let mut distances = [0i32; 256];
-    is_found(first_failing(&mut distances, &cares, &values, table, core.v))
+    first_failing(&mut distances, &table.cares, &table.bytes, table, core.v).is_some()
 }
 
 // Whether some row fails, and v differs from s unless all counts are 0.
+#[tactic(auto, using(crate::proofs::TestLaws::vectors_same))]
 fn goes_on(table: Table, core: Core, counts: &[u32; 256]) -> bool
     requires { (table.n ≤ 8) × (core.k ≤ cap) × (in_range core.k table.n core.v.a core.v.b ≡ true) × (length counts.now ≡ 256) }
     ensures { result ≡ (is_some (failing (function_of table) core.v) && (not (same_vector core.v core.s) || all_at_most 0 counts.now)) }
 {
-    if !some_fails(table, core) {
-        return false;
-    }
-    if !same_vector(core.v, core.s) {
-        return true;
-    }
-    counts_within(counts, 0, 0)
+    some_fails(table, core) && (core.v != core.s || counts_within(counts, 0, 0))
 }
 
 // Whether K is at least 2, and v is s again.
+#[tactic(auto, using(crate::proofs::TestLaws::vectors_same))]
 fn has_looped(core: Core) -> bool
     ensures { result ≡ (nat_le 2 core.k && same_vector core.v core.s) }
 {
-    2 <= core.k && same_vector(core.v, core.s)
+    2 <= core.k && core.v == core.s
 }
 
 // Whether the table is binate, and the counts are those that show it.
@@ -64,14 +57,14 @@ fn has_binate_counts(table: Table, counts: &[u32; 256]) -> bool
     requires { table.n ≤ 8 }
     ensures { result ≡ is_binate_with (function_of table) (binate_place (function_of table)) counts.now }
 {
-    let Lowest::At(place) = binate_place(table) else {
+    let Some(place) = binate_place(table) else {
         return false;
     };
-    let shown = binate_counts(table, place);
-    same_counts(counts, &shown)
+    *counts == binate_counts(table, place)
 }
 
 // Whether the state is the fresh one of a binate table.
+#[tactic(auto, using(crate::proofs::TestLaws::vectors_same))]
 fn is_binate_start(table: Table, core: Core, counts: &[u32; 256]) -> bool
     requires { table.n ≤ 8 }
     ensures { result ≡ ((core.k == 0)
@@ -80,16 +73,7 @@ fn is_binate_start(table: Table, core: Core, counts: &[u32; 256]) -> bool
         && is_binate_with (function_of table) (binate_place (function_of table)) counts.now) }
 {
     let zero = Vector { a: [0i32; 8], b: 0 };
-    if core.k != 0 {
-        return false;
-    }
-    if !same_vector(core.v, zero) {
-        return false;
-    }
-    if !same_vector(core.s, zero) {
-        return false;
-    }
-    has_binate_counts(table, counts)
+    core.k == 0 && core.v == zero && core.s == zero && has_binate_counts(table, counts)
 }
 
 // Whether the state is traced, on a table that is not binate.
@@ -97,10 +81,7 @@ fn is_unate_trace(table: Table, core: Core, counts: &[u32; 256]) -> bool
     requires { (table.n ≤ 8) × CountArray counts.now }
     ensures { result ≡ (is_traced (function_of table) (state_of core counts.now) && not (is_some (binate_place (function_of table)))) }
 {
-    if !is_traced(table, core, counts) {
-        return false;
-    }
-    !is_found(binate_place(table))
+    is_traced(table, core, counts) && binate_place(table).is_none()
 }
 
 // Returns the M that a state of this stage has after k corrections.
@@ -108,20 +89,18 @@ fn mark_for(stage: Stage, k: u32) -> u32
     ensures { result ≡ mark_for stage k }
 {
     match stage {
-        Stage::Open => top_power(k),
-        Stage::Found => top_power(k),
-        Stage::Looped => if k == 0 { 0 } else { top_power(k - 1) },
-        Stage::Binate => top_power(k),
+        Stage::Looped => top_power(k.saturating_sub(1)),
+        Stage::Open | Stage::Found | Stage::Binate => top_power(k),
     }
 }
 
 // Whether the state is in order for its stage.
+#[tactic(auto, unfolding(state::specs::Sound::sound_in))]
 fn sound_in(table: Table, core: Core, counts: &[u32; 256]) -> bool
     requires { (table.n ≤ 8) × (core.k ≤ cap) × (in_range core.k table.n core.v.a core.v.b ≡ true) × CountArray counts.now }
     ensures { result ≡ sound_in (function_of table) core.stage (state_of core counts.now) }
 {
-    let stage = core.stage;
-    match stage {
+    match core.stage {
         Stage::Open => is_unate_trace(table, core, counts) && goes_on(table, core, counts),
         Stage::Found => is_unate_trace(table, core, counts) && !some_fails(table, core),
         Stage::Looped => is_unate_trace(table, core, counts) && has_looped(core),
@@ -134,9 +113,7 @@ fn keeps_rows(table: Table, counts: &[u32; 256]) -> bool
     requires { (table.n ≤ 8) × (length counts.now ≡ 256) }
     ensures { result ≡ (counts_cared (function_of table) (count_of counts.now) && all_at_most 0 (drop (rows table) counts.now)) }
 {
-    let cared = counts_cared(table, counts);
-    let inside = counts_within(counts, row_count(table.n), 0);
-    cared && inside
+    counts_cared(table, counts) && counts_within(counts, row_count(table.n), 0)
 }
 
 // Whether K is at most the cap, v and s are within ±K, and the counts of rows that are not cared for and of those past the table are 0.
@@ -150,29 +127,19 @@ fn keeps_limits(table: Table, core: Core, counts: &[u32; 256]) -> bool
 {
     let n = table.n;
     let k = core.k;
-    if CAP < k {
-        return false;
-    }
-    if !vector_within(core.v, n, k) {
-        return false;
-    }
-    if !vector_within(core.s, n, k) {
-        return false;
-    }
-    keeps_rows(table, counts)
+    k <= CAP
+        && vector_within(core.v, n, k)
+        && vector_within(core.s, n, k)
+        && keeps_rows(table, counts)
 }
 
 // Whether a state, taken apart, is sound.
+#[tactic(auto, unfolding(state::specs::Sound::is_sound))]
 pub fn is_sound(table: Table, core: Core, counts: &[u32; 256]) -> bool
     requires { (table.n ≤ 8) × CountArray counts.now }
     ensures { result ≡ is_sound (function_of table) (state_of core counts.now) }
 {
-    if !keeps_limits(table, core, counts) {
-        return false;
-    }
-    let stage = core.stage;
-    if core.mark != mark_for(stage, core.k) {
-        return false;
-    }
-    sound_in(table, core, counts)
+    keeps_limits(table, core, counts)
+        && core.mark == mark_for(core.stage, core.k)
+        && sound_in(table, core, counts)
 }

@@ -1,7 +1,7 @@
 -- The fresh state is sound. Where no input is binate it is open if a row fails, and found if none does. Where one is, the four rows that have
 -- counts are rows of the function, and cared for. Assumes nothing.
 use mathlib.Core.Path.{◌≡◌, refl, sym, ◌∙◌, ap, subst}
-use mathlib.Core.Option.{Option, some, none}
+use Rattle.std.specs.Prelude.{Option, Some, None}
 use Prim.Native.Nat.{ℕ, ◌*◌}
 use native.Mathlib.Omega.{arith}
 use lib.ListN.{length-replicate}
@@ -26,7 +26,7 @@ module _ (f : Function) where
   -- ---- no input is binate
 
   -- what the stages ask alike, of a start without counts
-  start_common : binate_place f ≡ none → Common f (start_state zeros Open)
+  start_common : binate_place f ≡ None → Common f (start_state zeros Open)
   start_common e = record {
     shaped = record { weights = refl; copied = refl; counts = length-replicate {A = ℕ} 256 0 };
     capped = omega arith;
@@ -38,11 +38,11 @@ module _ (f : Function) where
     unate = e;
   }
 
-  open_sound : (r : ℕ) → binate_place f ≡ none → failing f zero_vector ≡ some r → Sound f (start_state zeros Open)
+  open_sound : (r : ℕ) → binate_place f ≡ None → failing f zero_vector ≡ Some r → Sound f (start_state zeros Open)
   open_sound r e first =
       stage_sound f Open (start_state zeros Open) (start_common e) (sym highest_zero) (λ traced. (traced, e, (r, first), λ same. zeros_past 0))
 
-  found_sound : binate_place f ≡ none → failing f zero_vector ≡ none → Sound f (start_state zeros Found)
+  found_sound : binate_place f ≡ None → failing f zero_vector ≡ None → Sound f (start_state zeros Found)
   found_sound e first = stage_sound f Found (start_state zeros Open) (start_common e) (sym highest_zero) (λ traced. (traced, e, first))
 
   -- ---- an input is binate
@@ -50,7 +50,7 @@ module _ (f : Function) where
   zero_ranged : Ranged (f.top * 0) f.places zero_vector
   zero_ranged = (in_range_correct (f.top * 0) f.places zero_vector.a zero_vector.b).1 (zero_in_range (f.top * 0) f.places)
 
-  binate_sound : (place : ℕ) → binate_place f ≡ some place → Sound f (start_state (binate_counts f place) Binate)
+  binate_sound : (place : ℕ) → binate_place f ≡ Some place → Sound f (start_state (binate_counts f place) Binate)
   binate_sound place e = record {
     shaped = record { weights = refl; copied = refl; counts = length_binate_counts f place };
     capped = omega arith;
@@ -67,6 +67,6 @@ module _ (f : Function) where
   fresh_sound = by (binate_place f) refl (failing f zero_vector) refl
     where
       by : (o : Option ℕ) → binate_place f ≡ o → (first : Option ℕ) → failing f zero_vector ≡ first → Sound f (fresh f)
-      by none e none g = subst (Sound f) (sym (fresh_found f e g)) (found_sound e g)
-      by none e (some r) g = subst (Sound f) (sym (fresh_open f r e g)) (open_sound r e g)
-      by (some place) e first g = subst (Sound f) (sym (fresh_binate f place e)) (binate_sound place e)
+      by None e None g = subst (Sound f) (sym (fresh_found f e g)) (found_sound e g)
+      by None e (Some r) g = subst (Sound f) (sym (fresh_open f r e g)) (open_sound r e g)
+      by (Some place) e first g = subst (Sound f) (sym (fresh_binate f place e)) (binate_sound place e)

@@ -3,7 +3,7 @@
 use mathlib.Core.Path.{◌≡◌, refl, sym, ◌∙◌, ap}
 use mathlib.Core.Logic.{◌≢◌}
 use mathlib.Core.Bool.{Bool, true, false}
-use mathlib.Core.Option.{Option, some, none}
+use Rattle.std.specs.Prelude.{Option, Some, None}
 use Prim.Native.Nat.{ℕ, zero, suc, ◌+◌, ◌-◌, ◌≤◌}
 use native.Mathlib.Nat.{zero-add, suc-add}
 use native.Mathlib.Omega.{arith}
@@ -60,8 +60,8 @@ pub ended_stage : (stage : Stage) → is_ended stage ≡ true → stage ≢ Open
 ended_stage stage e is = no_true (sym (ap is_ended is) ∙ e)
 
 settle_keeps : (o : Option ℕ) (x : State) → (settle_by o x).k ≡ x.k
-settle_keeps none x = refl
-settle_keeps (some r) x = refl
+settle_keeps None x = refl
+settle_keeps (Some r) x = refl
 
 mark_keeps : (b : Bool) (x : State) → (mark_if b x).k ≡ x.k
 mark_keeps true x = refl
@@ -71,23 +71,23 @@ module _ (f : Function) where
   -- ---- the fresh state
 
   -- without a binate input it is open where a row fails, without counts
-  pub fresh_open : (r : ℕ) → binate_place f ≡ none → failing f zero_vector ≡ some r → fresh f ≡ start_state zeros Open
+  pub fresh_open : (r : ℕ) → binate_place f ≡ None → failing f zero_vector ≡ Some r → fresh f ≡ start_state zeros Open
   unfolding fresh
   fresh_open r e g = ap (fresh_by f) e ∙ ap (λ (o : Option ℕ). start_state zeros (start_stage o)) g
 
   -- and found where none does
-  pub fresh_found : binate_place f ≡ none → failing f zero_vector ≡ none → fresh f ≡ start_state zeros Found
+  pub fresh_found : binate_place f ≡ None → failing f zero_vector ≡ None → fresh f ≡ start_state zeros Found
   unfolding fresh
   fresh_found e g = ap (fresh_by f) e ∙ ap (λ (o : Option ℕ). start_state zeros (start_stage o)) g
 
   -- with one it is binate, with the counts of the lowest binate input
-  pub fresh_binate : (place : ℕ) → binate_place f ≡ some place → fresh f ≡ start_state (binate_counts f place) Binate
+  pub fresh_binate : (place : ℕ) → binate_place f ≡ Some place → fresh f ≡ start_state (binate_counts f place) Binate
   unfolding fresh
   fresh_binate place e = ap (fresh_by f) e
 
   fresh_by_k : (o : Option ℕ) → (fresh_by f o).k ≡ 0
-  fresh_by_k none = refl
-  fresh_by_k (some place) = refl
+  fresh_by_k None = refl
+  fresh_by_k (Some place) = refl
 
   -- its K is 0
   pub fresh_k : (fresh f).k ≡ 0
@@ -121,24 +121,24 @@ module _ (f : Function) where
   closed_on x e = ap (λ (b : Bool). close_if f b x) e
 
   -- step 5: where no row fails the stage is found
-  pub settled_found : (x : State) → failing f x.v ≡ none → settled f x ≡ with_stage Found x
+  pub settled_found : (x : State) → failing f x.v ≡ None → settled f x ≡ with_stage Found x
   unfolding settled
   settled_found x e = ap (λ (o : Option ℕ). settle_by o x) e
 
   -- where one fails the state is as it was
-  pub settled_open : (x : State) (r : ℕ) → failing f x.v ≡ some r → settled f x ≡ x
+  pub settled_open : (x : State) (r : ℕ) → failing f x.v ≡ Some r → settled f x ≡ x
   unfolding settled
   settled_open x r e = ap (λ (o : Option ℕ). settle_by o x) e
 
   -- ---- a step
 
   -- a step of an open job is a correction by the lowest failing row, and what follows it
-  pub step_open : (x : State) (r : ℕ) → x.stage ≡ Open → failing f x.v ≡ some r → step f x ≡ closed f (corrected f r x)
+  pub step_open : (x : State) (r : ℕ) → x.stage ≡ Open → failing f x.v ≡ Some r → step f x ≡ closed f (corrected f r x)
   unfolding step step_in
   step_open x r s e = ap (λ (stage : Stage). step_in f stage x) s ∙ ap (λ (o : Option ℕ). step_by f o x) e
 
   -- an open job without a failing row steps no more
-  pub step_none : (x : State) → x.stage ≡ Open → failing f x.v ≡ none → step f x ≡ x
+  pub step_none : (x : State) → x.stage ≡ Open → failing f x.v ≡ None → step f x ≡ x
   unfolding step step_in
   step_none x s e = ap (λ (stage : Stage). step_in f stage x) s ∙ ap (λ (o : Option ℕ). step_by f o x) e
 
@@ -167,13 +167,13 @@ module _ (f : Function) where
   closed_keeps x = close_keeps (same_vector x.v x.s) x
 
   -- a step of an open job with a failing row adds 1 to K
-  pub step_k : (x : State) (r : ℕ) → x.stage ≡ Open → failing f x.v ≡ some r → (step f x).k ≡ x.k + 1
+  pub step_k : (x : State) (r : ℕ) → x.stage ≡ Open → failing f x.v ≡ Some r → (step f x).k ≡ x.k + 1
   step_k x r s e = rw (step_open x r s e, closed_keeps (corrected f r x), corrected_is r x)
 
   step_by_growth : (o : Option ℕ) (x : State) → (step_by f o x).k ≤ x.k + 1
   unfolding corrected
-  step_by_growth none x = omega arith
-  step_by_growth (some r) x = omega (arith, closed_keeps (corrected f r x))
+  step_by_growth None x = omega arith
+  step_by_growth (Some r) x = omega (arith, closed_keeps (corrected f r x))
 
   step_in_growth : (stage : Stage) (x : State) → (step_in f stage x).k ≤ x.k + 1
   unfolding step_in

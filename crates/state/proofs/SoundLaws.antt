@@ -2,7 +2,7 @@
 use mathlib.Core.Path.{◌≡◌, refl, sym, ◌∙◌, ap}
 use mathlib.Core.Logic.{◌↔◌}
 use mathlib.Core.Bool.{Bool, true, false, not, ◌&&◌}
-use mathlib.Core.Option.{Option, some, none}
+use Rattle.std.specs.Prelude.{Option, Some, None}
 use Prim.Native.Nat.{ℕ, suc, ◌+◌, ◌≤◌}
 use native.Mathlib.Decide.{dec_le}
 use native.Mathlib.Omega.{arith}
@@ -10,7 +10,8 @@ use lib.Dec.{leb, eqb}
 use lib.ListN.{length, drop}
 use lib.IntN.{ℤ, pos, ◌+ℤ◌}
 use borrow.Author.Tests.{leb-true, le-leb, eqb-true, eq-eqb}
-use Rattle.numbers.specs.Tests.{all_at_most, all_below, is_some, same_z}
+use Rattle.numbers.specs.Tests.{all_at_most, all_below, same_z}
+use Rattle.std.specs.Prelude.{is_some}
 use Rattle.numbers.proofs.TestLaws.{no_true, and_left, and_right, and_both, where_passed, all_below_at, all_below_from, same_z_correct}
 use Rattle.function.specs.Witness.{same_counts}
 use Rattle.function.proofs.CountLaws.{same_counts_correct}
@@ -55,13 +56,13 @@ is_equal m n = (eqb-true m n, eq-eqb m n)
 is_at_most : (m n : ℕ) → leb m n ≡ true ↔ m ≤ n
 is_at_most m n = (leb-true m n, le-leb m n)
 
-is_some_lem : (o : Option ℕ) → is_some o ≡ true ↔ ((r : ℕ) × (o ≡ some r))
-is_some_lem none = (λ e. absurd (no_true e), λ p. absurd (no_true (ap is_some p.1)))
-is_some_lem (some r) = (λ e. (r, refl), λ p. refl)
+is_some_lem : (o : Option ℕ) → is_some o ≡ true ↔ ((r : ℕ) × (o ≡ Some r))
+is_some_lem None = (λ e. absurd (no_true e), λ p. absurd (no_true (ap is_some p.1)))
+is_some_lem (Some r) = (λ e. (r, refl), λ p. refl)
 
-is_none : (o : Option ℕ) → not (is_some o) ≡ true ↔ o ≡ none
-is_none none = (λ e. refl, λ e. refl)
-is_none (some r) = (λ e. absurd (no_true e), λ e. absurd (no_true (sym (ap is_some e))))
+is_none : (o : Option ℕ) → not (is_some o) ≡ true ↔ o ≡ None
+is_none None = (λ e. refl, λ e. refl)
+is_none (Some r) = (λ e. absurd (no_true e), λ e. absurd (no_true (sym (ap is_some e))))
 
 -- ---- the parts
 
@@ -99,9 +100,9 @@ module _ (f : Function) where
       )
 
   binate_with_correct : (o : Option ℕ) (x : State) → length x.counts ≡ 256
-      → is_binate_with f o x.counts ≡ true ↔ ((place : ℕ) × (o ≡ some place) × (x.counts ≡ binate_counts f place))
-  binate_with_correct none x n = (λ e. absurd (no_true e), λ p. absurd (no_true (ap is_some p.1)))
-  binate_with_correct (some place) x n = (
+      → is_binate_with f o x.counts ≡ true ↔ ((place : ℕ) × (o ≡ Some place) × (x.counts ≡ binate_counts f place))
+  binate_with_correct None x n = (λ e. absurd (no_true e), λ p. absurd (no_true (ap is_some p.1)))
+  binate_with_correct (Some place) x n = (
     λ e. (place, refl, same.0 e),
     λ p. same.1 (p.2 ∙ ap (binate_counts f) (sym (some_same p.1))),
   )
@@ -109,7 +110,7 @@ module _ (f : Function) where
       same : same_counts x.counts (binate_counts f place) ≡ true ↔ x.counts ≡ binate_counts f place
       same = same_counts_correct x.counts (binate_counts f place) n (length_binate_counts f place)
 
-      some_same : {p q : ℕ} → some p ≡ some q → p ≡ q
+      some_same : {p q : ℕ} → Some p ≡ Some q → p ≡ q
       some_same e = cc
 
   -- what the stage asks
@@ -128,7 +129,7 @@ module _ (f : Function) where
   -- only rows that are cared for have a count, where those past the last have none
   cared_correct : (x : State) → all_at_most 0 (drop (rows f) x.counts) ≡ true
       → counts_cared f (count_of x.counts) ≡ true ↔ ((r : ℕ) → f.cared r ≡ false → count_of x.counts r ≡ 0)
-  cared_correct x past = (λ e r c. by e r c (dec_le (rows f) r), λ none. (counts_cared_correct f (count_of x.counts)).1 (λ r h. none r))
+  cared_correct x past = (λ e r c. by e r c (dec_le (rows f) r), λ None. (counts_cared_correct f (count_of x.counts)).1 (λ r h. None r))
     where
       by : counts_cared f (count_of x.counts) ≡ true → (r : ℕ) → f.cared r ≡ false → Dec (rows f ≤ r) → count_of x.counts r ≡ 0
       by e r c (yes h) = past_none (rows f) x.counts past r h

@@ -3,7 +3,7 @@
 use mathlib.Core.Path.{◌≡◌, refl, sym, subst}
 use mathlib.Core.Logic.{◌≢◌}
 use mathlib.Core.Bool.{Bool, true, false}
-use mathlib.Core.Option.{Option, some, none}
+use Rattle.std.specs.Prelude.{Option, Some, None}
 use Prim.Native.Nat.{ℕ, zero, suc, ◌+◌, ◌≤◌, ◌<◌}
 use native.Mathlib.Omega.{arith}
 use Rattle.types.specs.declared.state.State.{State}
@@ -52,8 +52,8 @@ module _ (f : Function) where
   step_grows x = by (open_or_ended x.stage)
     where
       at_row : (o : Option ℕ) → x.stage ≡ Open → failing f x.v ≡ o → x.k ≤ (step f x).k
-      at_row none e q = rw (step_none f x e q) (omega arith)
-      at_row (some r) e q = omega (arith, step_k f x r e q)
+      at_row None e q = rw (step_none f x e q) (omega arith)
+      at_row (Some r) e q = omega (arith, step_k f x r e q)
 
       by : Dec (x.stage ≡ Open) → x.k ≤ (step f x).k
       by (yes e) = at_row (failing f x.v) e refl
@@ -66,7 +66,7 @@ module _ (f : Function) where
 
   -- an open job has a failing row to be corrected by
   abbrev pub Goes : State → Type 0
-  Goes x = x.stage ≡ Open → (r : ℕ) × (failing f x.v ≡ some r)
+  Goes x = x.stage ≡ Open → (r : ℕ) × (failing f x.v ≡ Some r)
 
   -- a sound job goes
   pub sound_goes : (x : State) → Sound f x → Goes x
@@ -79,8 +79,8 @@ module _ (f : Function) where
   settled_goes x = by (failing f x.v) refl
     where
       by : (o : Option ℕ) → failing f x.v ≡ o → Goes (settled f x)
-      by none q = subst Goes (sym (settled_found f x q)) (ended_goes Found x found_ended)
-      by (some r) q = subst Goes (sym (settled_open f x r q)) (λ e. (r, q))
+      by None q = subst Goes (sym (settled_found f x q)) (ended_goes Found x found_ended)
+      by (Some r) q = subst Goes (sym (settled_open f x r q)) (λ e. (r, q))
 
   closed_goes : (x : State) → Goes (closed f x)
   closed_goes x = by (same_vector x.v x.s) refl

@@ -2,7 +2,7 @@
 -- it each end of a step has only its mark and its stage left to show. Assumes nothing.
 use mathlib.Core.Path.{◌≡◌, refl, sym, ◌∙◌, ap, subst}
 use mathlib.Core.Bool.{Bool, true, false}
-use mathlib.Core.Option.{Option, some, none}
+use Rattle.std.specs.Prelude.{Option, Some, None}
 use Prim.Native.Nat.{ℕ, zero, suc, ◌+◌, ◌-◌, ◌*◌, ◌≤◌, ◌<◌}
 use native.Mathlib.Nat.{mul-add}
 use native.Mathlib.Omega.{arith}
@@ -100,8 +100,8 @@ module _ (f : Function) where
   settled_sound x e c m differs = by (failing f x.v) refl
     where
       by : (o : Option ℕ) → failing f x.v ≡ o → Sound f (settled f x)
-      by none g = subst (Sound f) (sym (settled_found f x g)) (stage_sound Found x c m (λ traced. (traced, c.unate, g)))
-      by (some r) g =
+      by None g = subst (Sound f) (sym (settled_found f x g)) (stage_sound Found x c m (λ traced. (traced, c.unate, g)))
+      by (Some r) g =
           subst (Sound f) (with_stage_same Open x e ∙ sym (settled_open f x r g)) (stage_sound Open x c m (λ traced. (traced, c.unate, (r, g), differs)))
 
   -- ---- the mark

@@ -1,7 +1,7 @@
 -- The stepping machine (document 01, "The stepping machine"): the perceptron rule with unit corrections, and Brent's search for a cycle.
 -- Its steps: 1 and 2 `corrected`, by the row that `step_by` takes; 3 `closed`; 4 `marked`; 5 `settled`. Definitions only. Assumes nothing.
 use Rattle.std.specs.Prelude.{Bool, true, false, List, ℕ, zero, suc, ◌+◌, eqb}
-use Rattle.std.proofs.Math.Option.{Option, some, none}
+use Rattle.std.specs.Prelude.{Option, Some, None}
 use Rattle.function.specs.Witness.{one_more, zeros}
 use Rattle.types.specs.declared.stage.Stage.{Stage}
 use Rattle.types.specs.declared.stage.Stage.TheVariants.{Open, Found, Looped, Binate}
@@ -21,13 +21,13 @@ start_state counts stage = record { k = 0; v = zero_vector; mark = 0; s = zero_v
 -- where no input is binate: open, or found where no row fails. Every row that is cared for fails at v = 0, so a table with such a row is open
 -- (claimed: `TablesAsWritten`), and one without is found, with K 0 (document 02, §3)
 abbrev pub start_stage : Option ℕ → Stage
-start_stage (some r) = Open
-start_stage none = Found
+start_stage (Some r) = Open
+start_stage None = Found
 
 -- a function with a binate input has the counts of the lowest, in stage binate; any other has none
 abbrev pub fresh_by : Function → Option ℕ → State
-fresh_by f none = start_state zeros (start_stage (failing f zero_vector))
-fresh_by f (some place) = start_state (binate_counts f place) Binate
+fresh_by f None = start_state zeros (start_stage (failing f zero_vector))
+fresh_by f (Some place) = start_state (binate_counts f place) Binate
 
 unfoldable pub fresh : Function → State
 fresh f = fresh_by f (binate_place f)
@@ -58,8 +58,8 @@ marked x = mark_if (eqb (highest x.k) x.k) x
 
 -- step 5: if no row fails, the stage is found
 abbrev pub settle_by : Option ℕ → State → State
-settle_by none x = with_stage Found x
-settle_by (some r) x = x
+settle_by None x = with_stage Found x
+settle_by (Some r) x = x
 
 unfoldable pub settled : Function → State → State
 settled f x = settle_by (failing f x.v) x
@@ -75,8 +75,8 @@ module _ (f : Function) where
 
   -- the step by the lowest failing row
   abbrev pub step_by : Option ℕ → State → State
-  step_by none x = x
-  step_by (some r) x = closed (corrected f r x)
+  step_by None x = x
+  step_by (Some r) x = closed (corrected f r x)
 
   -- an ended job steps no more
   unfoldable pub step_in : Stage → State → State

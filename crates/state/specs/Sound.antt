@@ -1,8 +1,9 @@
 -- A sound job (document 01, "The stepping machine"): what it says of a function and a state, and the test of it, which code computes on tables.
 -- `is_sound_correct` of proofs/ joins the two. Definitions only. Assumes nothing.
 use Rattle.std.specs.Prelude.{◌≡◌, Bool, true, false, not, ◌&&◌, ◌||◌, List, ℕ, suc, ◌+◌, ◌-◌, ◌*◌, ◌≤◌, leb, eqb, length, drop, pos, ◌+ℤ◌}
-use Rattle.std.proofs.Math.Option.{Option, some, none}
-use Rattle.numbers.specs.Tests.{all_at_most, all_below, is_some, same_z}
+use Rattle.std.specs.Prelude.{Option, Some, None}
+use Rattle.numbers.specs.Tests.{all_at_most, all_below, same_z}
+use Rattle.std.specs.Prelude.{is_some}
 use Rattle.types.specs.declared.vector.Vector.{Vector}
 use Rattle.types.specs.declared.stage.Stage.{Stage}
 use Rattle.types.specs.declared.stage.Stage.TheVariants.{Open, Found, Looped, Binate}
@@ -46,15 +47,15 @@ pub record Traced (f : Function) (x : State) : Type 0 where
       → component x.v i +ℤ pos (side_sum f false (count_of x.counts) i) ≡ component x.s i +ℤ pos (side_sum f true (count_of x.counts) i)
 
 abbrev pub NotBinate : Function → Type 0
-NotBinate f = binate_place f ≡ none
+NotBinate f = binate_place f ≡ None
 
 -- what each stage asks besides
 abbrev pub SoundIn : Function → Stage → State → Type 0
-SoundIn f Open x = Traced f x × NotBinate f × ((r : ℕ) × (failing f x.v ≡ some r)) × (x.v ≡ x.s → all_at_most 0 x.counts ≡ true)
-SoundIn f Found x = Traced f x × NotBinate f × (failing f x.v ≡ none)
+SoundIn f Open x = Traced f x × NotBinate f × ((r : ℕ) × (failing f x.v ≡ Some r)) × (x.v ≡ x.s → all_at_most 0 x.counts ≡ true)
+SoundIn f Found x = Traced f x × NotBinate f × (failing f x.v ≡ None)
 SoundIn f Looped x = Traced f x × NotBinate f × (2 ≤ x.k) × (x.v ≡ x.s)
 SoundIn f Binate x =
-    (x.k ≡ 0) × (x.v ≡ zero_vector) × (x.s ≡ zero_vector) × ((place : ℕ) × (binate_place f ≡ some place) × (x.counts ≡ binate_counts f place))
+    (x.k ≡ 0) × (x.v ≡ zero_vector) × (x.s ≡ zero_vector) × ((place : ℕ) × (binate_place f ≡ Some place) × (x.counts ≡ binate_counts f place))
 
 -- a sound job: the parts that every stage has, and what its own stage asks. The components are within ±(top × K), which is ±K on a table;
 -- rows that are not cared for and those past the last have no count
@@ -77,8 +78,8 @@ is_traced f x =
     (λ i. same_z (component x.v i +ℤ pos (side_sum f false (count_of x.counts) i)) (component x.s i +ℤ pos (side_sum f true (count_of x.counts) i)))
 
 abbrev pub is_binate_with : Function → Option ℕ → List ℕ → Bool
-is_binate_with f none counts = false
-is_binate_with f (some place) counts = same_counts counts (binate_counts f place)
+is_binate_with f None counts = false
+is_binate_with f (Some place) counts = same_counts counts (binate_counts f place)
 
 unfoldable pub sound_in : Function → Stage → State → Bool
 sound_in f Open x =

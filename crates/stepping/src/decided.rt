@@ -29,8 +29,7 @@ pub fn decided_alone(table: Table) -> State
     ensures { result ≡ run (function_of table) call_budget (fresh (function_of table)) }
 {
     let state = fresh_state(table);
-    let stage = state.stage;
-    if is_ended(stage) {
+    if is_ended(state.stage) {
         return state;
     }
     let steps = step_table();

@@ -1,12 +1,11 @@
 // The state that a table starts with.
 ghost use Rattle.std.specs.Prelude.{◌≡◌, ◌≤◌};
 ghost use Rattle.state.specs.Machine.{start_state, fresh};
-ghost use Rattle.numbers.specs.Tests.{is_some};
+ghost use Rattle.std.specs.Prelude.{is_some};
 ghost use Rattle.function.specs.Failing.{failing};
 ghost use Rattle.function.specs.Vector.{zero_vector};
 ghost use Rattle.table.specs.Table.{function_of};
 
-use table::lowest::Lowest;
 use table::table::{row_cared, row_count};
 use types::stage::Stage;
 use types::state::State;
@@ -18,7 +17,7 @@ use unateness::binate::{binate_counts, binate_place};
 pub fn start_state(counts: [u32; 256], stage: Stage) -> State
     ensures { result ≡ start_state counts stage }
 {
-    let zero = Vector { a: [0i32; 8], b: 0 };
+    let zero = Vector { a: [0; 8], b: 0 };
     State {
         k: 0,
         v: zero,
@@ -34,13 +33,10 @@ fn some_cared(table: Table) -> bool
     requires { table.n ≤ 8 }
     ensures { result ≡ is_some (failing (function_of table) zero_vector) }
 {
-    let rows = row_count(table.n);
-    let mut row: usize = 0;
-    while row < rows {
+    for row in 0..row_count(table.n) {
         if row_cared(table, row) {
             return true;
         }
-        row = row + 1;
     }
     false
 }
@@ -50,13 +46,13 @@ pub fn fresh_state(table: Table) -> State
     requires { table.n ≤ 8 }
     ensures { result ≡ fresh (function_of table) }
 {
-    let Lowest::At(place) = binate_place(table) else {
+    let Some(place) = binate_place(table) else {
         let stage = if some_cared(table) {
             Stage::Open
         } else {
             Stage::Found
         };
-        return start_state([0u32; 256], stage);
+        return start_state([0; 256], stage);
     };
     start_state(binate_counts(table, place), Stage::Binate)
 }

@@ -5,7 +5,7 @@ ghost use Rattle.table.specs.Gate.{weight_limit, in_range};
 ghost use Rattle.lanes.specs.Sums.{magnitude};
 ghost use Rattle.correction.specs.Steps.{step_at};
 ghost use Rattle.machine.specs.Core.{state_of};
-ghost use Rattle.state.specs.Machine.{with_stage, is_ended, run};
+ghost use Rattle.state.specs.Machine.{is_ended, run};
 ghost use Rattle.state.specs.Sound.{cap, Sound};
 ghost use Rattle.table.specs.Table.{function_of};
 
@@ -15,7 +15,6 @@ use machine::core_state::{Core, core_of, state_of};
 use machine::power::top_power;
 use machine::vector::{corrected_by, same_vector};
 use scan::scan::first_failing;
-use table::lowest::Lowest;
 use table::table::row_value;
 use types::stage::Stage;
 use types::state::State;
@@ -25,29 +24,7 @@ use types::table::Table;
 pub fn is_ended(stage: Stage) -> bool
     ensures { result ≡ is_ended stage }
 {
-    match stage {
-        Stage::Open => false,
-        Stage::Found => true,
-        Stage::Looped => true,
-        Stage::Binate => true,
-    }
-}
-
-// Returns the state in another stage.
-fn with_stage(state: State, stage: Stage) -> State
-    ensures { result ≡ with_stage stage state }
-{
-    let v = state.v;
-    let s = state.s;
-    let counts = state.counts;
-    State {
-        k: state.k,
-        v,
-        mark: state.mark,
-        s,
-        counts,
-        stage,
-    }
+    stage != Stage::Open
 }
 
 // Returns the state after so many steps, or at its end. A step makes one search: the row that it finds is the next step's.
@@ -55,36 +32,32 @@ fn plain_steps(table: Table, state: State, budget: u32) -> State
     requires { (table.n ≤ 8) × Sound (function_of table) state × (state.stage ≡ Stage.Open) × (state.k + budget ≤ cap) }
     ensures { result ≡ run (function_of table) budget state }
 {
-    let cares = table.cares;
-    let values = table.bytes;
     let mut distances = [0i32; 256];
     let mut j = state;
-    let mut next = first_failing(&mut distances, &cares, &values, table, j.v);
-    let mut made: u32 = 0;
-    while made < budget {
-        let Lowest::At(row) = next else {
-            return with_stage(j, Stage::Found);
+    let mut next = first_failing(&mut distances, &table.cares, &table.bytes, table, j.v);
+    for _ in 0..budget {
+        let Some(row) = next else {
+            break;
         };
         let v = corrected_by(j.v, row_value(table, row), row);
         j.v = v;
-        j.k = j.k + 1;
-        j.counts[row] = j.counts[row] + 1;
+        j.k += 1;
+        j.counts[row] += 1;
         if same_vector(v, j.s) {
-            return with_stage(j, Stage::Looped);
+            j.stage = Stage::Looped;
+            return j;
         }
         if top_power(j.k) == j.k {
             j.mark = j.k;
             j.s = v;
-            j.counts = [0u32; 256];
+            j.counts = [0; 256];
         }
-        next = first_failing(&mut distances, &cares, &values, table, j.v);
-        made = made + 1;
+        next = first_failing(&mut distances, &table.cares, &table.bytes, table, j.v);
     }
-    if let Lowest::At(_) = next {
-        j
-    } else {
-        with_stage(j, Stage::Found)
+    if next.is_none() {
+        j.stage = Stage::Found;
     }
+    j
 }
 
 // Where the fast form has come to: the core of the state, and how many of its steps are left to make.
@@ -99,17 +72,7 @@ fn is_fast(core: Core, left: u32) -> bool
     requires { (in_range weight_limit 8 core.v.a core.v.b ≡ true) × (in_range weight_limit 8 core.s.a core.s.b ≡ true) }
     ensures { result ≡ true → (0 < left) × (core.stage ≡ Stage.Open) × (magnitude core.v ≤ 9000) × (magnitude core.s ≤ 9000) }
 {
-    if left == 0 {
-        return false;
-    }
-    let stage = core.stage;
-    if is_ended(stage) {
-        return false;
-    }
-    if !is_small(core.v) {
-        return false;
-    }
-    is_small(core.s)
+    left > 0 && !is_ended(core.stage) && is_small(core.v) && is_small(core.s)
 }
 
 // Carries a state on by so many steps, or to its end, chunk by chunk, as far as the fast form can make them; its counts stay where they are.
@@ -126,10 +89,11 @@ fn fast_steps(
 {
     let mut core = start;
     let mut left = budget;
+    // kept: nothing is counted here, the loop goes on while the fast form can
     while is_fast(core, left) {
-        let part = if left < CHUNK { left } else { CHUNK };
+        let part = left.min(CHUNK);
         core = chunk(table, core, counts, part, steps);
-        left = left - part;
+        left -= part;
     }
     Way { core, left }
 }
@@ -142,11 +106,7 @@ pub fn run(table: Table, state: State, budget: u32, steps: &[i16; 2048]) -> Stat
     let mut counts = state.counts;
     let way = fast_steps(table, core_of(state), &mut counts, budget, steps);
     let next = state_of(way.core, counts);
-    if way.left == 0 {
-        return next;
-    }
-    let stage = next.stage;
-    if is_ended(stage) {
+    if way.left == 0 || is_ended(next.stage) {
         return next;
     }
     plain_steps(table, next, way.left)

@@ -4,7 +4,7 @@ use mathlib.Core.Path.{◌≡◌, refl, sym, ◌∙◌, ap}
 use mathlib.Core.Logic.{◌≢◌}
 use mathlib.Core.Bool.{Bool, true, false, ◌||◌}
 use mathlib.Core.List.{List}
-use mathlib.Core.Option.{some}
+use Rattle.std.specs.Prelude.{Some}
 use Prim.Native.Nat.{ℕ, zero, suc, ◌+◌, ◌^◌, ◌≤◌, ◌<◌}
 use native.Mathlib.Decide.{ℕ_discrete}
 use native.Mathlib.Omega.{arith}
@@ -69,8 +69,8 @@ module _ (t : Table) (place : ℕ) where
   partner_has r h = omega (arith, partner_level place place r (omega arith), unit_same place)
 
   -- the counts of a binate input: 1 at row r, the lowest where it rises, at row q, the lowest where it falls, and at their partners
-  pub table_binate_counts : t.n ≤ 8 → binate_place (function_of t) ≡ some place → (r q : ℕ) → first_turn (function_of t) true place ≡ some r
-      → first_turn (function_of t) false place ≡ some q → (row : ℕ)
+  pub table_binate_counts : t.n ≤ 8 → binate_place (function_of t) ≡ Some place → (r q : ℕ) → first_turn (function_of t) true place ≡ Some r
+      → first_turn (function_of t) false place ≡ Some q → (row : ℕ)
       → count_of (binate_counts (function_of t) place) row
       ≡ only_if (eqb row r || eqb row (r + 2 ^ place) || eqb row q || eqb row (q + 2 ^ place)) 1
   table_binate_counts few binate r q rises falls row =

@@ -11,7 +11,7 @@ use lib.ListN.{get_or}
 use borrow.Author.Tests.{not-false}
 use Rattle.numbers.specs.Packed.{packed, bit_in}
 use Rattle.numbers.proofs.PackedLaws.{packed_ext, packed_digits, packed_and, packed_not, packed_none, packed_zero}
-use Rattle.numbers.proofs.TestLaws.{not_passed, all_below_at, all_below_from}
+use Rattle.numbers.proofs.TestLaws.{all_below_at, all_below_from}
 use Rattle.types.specs.declared.table.Table.{Table}
 use Rattle.table.specs.Table.{rows_of, rows, byte_count, bit_at, value, cared, every_row, whole_table, is_whole, stray_value, spare_set}
 use Rattle.table.proofs.RowLaws.{ByteArray, byte_bit, rows_long, row_byte_lt, rows_clear, row_is, spare_none, same_bits}
@@ -52,11 +52,6 @@ bytes_whole t h same =
 
 pub cares_whole : (t : Table) → t.n ≤ 8 → t.cares ≡ every_row t.n → is_whole t ≡ true
 cares_whole t h e = whole_from t (λ r l. ap (λ (l : List ℕ). bit_at l r) e ∙ row_is t.n (λ r. true) h r l)
-
--- and where a byte is another, one is not
-pub cares_differ : (t : Table) (i : ℕ) → t.n ≤ 8 → ByteArray t.cares → spare_set t.n t.cares ≡ false
-    → (get_or t.cares i 0 ≡ get_or (every_row t.n) i 0 → ⊥) → is_whole t ≡ false
-cares_differ t i h array clear differ = not_passed _ (λ whole. differ (ap (λ (l : List ℕ). get_or l i 0) (whole_cares t h array clear whole)))
 
 -- ---- a value bit on a row that is not cared for
 

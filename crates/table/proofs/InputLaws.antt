@@ -1,19 +1,17 @@
 -- Laws of inputs: the rows in which an input turns the value, and its kind. Assumes nothing.
 use mathlib.Core.Path.{◌≡◌, refl, sym, ◌∙◌, ap}
 use mathlib.Core.Bool.{Bool, true, false, not, beq, ◌&&◌, and-true, and-false}
-use mathlib.Core.Option.{Option, some, none}
 use Prim.Native.Nat.{ℕ, ◌+◌, ◌^◌, ◌≤◌, ◌<◌}
-use native.Mathlib.Omega.{arith}
 use borrow.Author.Tests.{lt-ltb, le-ltb}
-use Rattle.table.specs.declared.lowest.Lowest.TheVariants.{At, Nowhere}
-use Rattle.numbers.specs.Tests.{same_bool, is_some}
+use Rattle.numbers.specs.Tests.{same_bool}
 use Rattle.numbers.proofs.TestLaws.{same_bool_beq}
 use Rattle.types.specs.declared.table.Table.{Table}
 use Rattle.types.specs.declared.inputs.InputKind.TheVariants.{Idle}
 use Rattle.table.specs.Table.{value, cared, function_of}
 use Rattle.table.proofs.OnTables.{table_turns}
 use Rattle.function.specs.Function.{level}
-use Rattle.table.specs.Inputs.{lowest_of, is_found, kind_by, input_kind_at}
+use Rattle.table.specs.Inputs.{kind_by, input_kind_at}
+use Rattle.std.specs.Prelude.{is_some}
 use Rattle.function.specs.Turns.{turns_at, first_turn}
 
 -- a value that code read is on a side as the code's comparison says
@@ -25,12 +23,12 @@ same_bool_read {v} side e k = ap (λ (x : Bool). same_bool x side) (sym e) ∙ s
 module _ (t : Table) (to : Bool) (place : ℕ) where
   -- a row with the input does not turn
   pub turns_at_has : (r : ℕ) → level 2 r place ≡ 1 → turns_at (function_of t) to place r ≡ false
-  turns_at_has r h = table_turns t to place r ∙ rw h (none (cared t r) (cared t (r + 2 ^ place)))
+  turns_at_has r h = table_turns t to place r ∙ rw h (neither (cared t r) (cared t (r + 2 ^ place)))
     where
-      none : (a b : Bool) → (a && (b && false)) ≡ false
-      none true true = refl
-      none true false = refl
-      none false b = refl
+      neither : (a b : Bool) → (a && (b && false)) ≡ false
+      neither true true = refl
+      neither true false = refl
+      neither false b = refl
 
   -- a row without it turns where its own value is not `to` and its partner's is, and both are cared for
   pub turns_at_lacks : (r : ℕ) → level 2 r place ≡ 0
@@ -49,25 +47,6 @@ module _ (t : Table) (to : Bool) (place : ℕ) where
       by false b v to p = sym (ap (λ (x : Bool). not (same_bool v to) && x) (and-false p) ∙ and-false (not (same_bool v to)))
 
 -- ---- kinds
-
--- a row that is answered is somewhere
-pub at_somewhere : {r : ℕ} → At r ≡ Nowhere → ⊥
-at_somewhere e = let z : ◌≡◌ {A = ℕ} 0 1 = cc in omega arith
-
--- a search that code answers with a row has found it
-pub lowest_some : (o : Option ℕ) (r : ℕ) → lowest_of o ≡ At r → o ≡ some r
-lowest_some none r e = absurd (at_somewhere (sym e))
-lowest_some (some q) r e = cc
-
--- one that it answers with nowhere has found nothing
-pub lowest_none : (o : Option ℕ) → lowest_of o ≡ Nowhere → o ≡ none
-lowest_none none e = refl
-lowest_none (some q) e = absurd (at_somewhere e)
-
--- a search is answered with a row exactly if it has found one
-pub is_found_lowest : (o : Option ℕ) → is_found (lowest_of o) ≡ is_some o
-is_found_lowest none = refl
-is_found_lowest (some r) = refl
 
 -- the kind of an input of the table, by its two searches
 pub input_kind_at_inside : (t : Table) (place : ℕ) → place < t.n → input_kind_at t place ≡ kind_by (is_some (first_turn (function_of t) true place)) (is_some (first_turn (function_of t) false place))

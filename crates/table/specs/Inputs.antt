@@ -1,26 +1,12 @@
 -- The kinds of inputs (document 01, "Kinds, Chow, report" and "The stepping machine"; source document 000, algorithm 1).
 -- Definitions only. Assumes nothing.
-use Rattle.std.specs.Prelude.{Bool, true, false, ◌&&◌, List, ℕ, ltb}
-use Rattle.std.proofs.Math.Option.{Option, some, none}
-use Rattle.numbers.specs.Tests.{is_some}
+use Rattle.std.specs.Prelude.{Bool, true, false, ◌&&◌, List, ℕ, ltb, is_some}
 use Rattle.numbers.specs.Tabulate.{tabulate}
 use Rattle.types.specs.declared.table.Table.{Table}
 use Rattle.types.specs.declared.inputs.InputKind.{InputKind}
 use Rattle.types.specs.declared.inputs.InputKind.TheVariants.{Idle, Rising, Falling, Binate}
-use Rattle.types.specs.declared.inputs.Place.{Place}
-use Rattle.table.specs.declared.lowest.Lowest.{Lowest}
-use Rattle.table.specs.declared.lowest.Lowest.TheVariants.{At, Nowhere}
 use Rattle.table.specs.Table.{function_of}
 use Rattle.function.specs.Turns.{first_turn}
-
--- the enum that code answers a search for the lowest with
-abbrev pub lowest_of : Option ℕ → Lowest
-lowest_of none = Nowhere
-lowest_of (some r) = At r
-
-abbrev pub is_found : Lowest → Bool
-is_found Nowhere = false
-is_found (At r) = true
 
 -- an input's kind, by whether it rises somewhere and whether it falls somewhere. The field's terms: inessential, positive unate,
 -- negative unate, binate
@@ -35,10 +21,7 @@ unfoldable pub input_kind_at : Table → ℕ → InputKind
 unfolding first_turn
 input_kind_at t place = kind_by (ltb place t.n && is_some (first_turn (function_of t) true place)) (ltb place t.n && is_some (first_turn (function_of t) false place))
 
-abbrev pub place_at : Table → ℕ → Place
-place_at t place = record { kind = input_kind_at t place }
-
 -- the kinds of all eight places
-unfoldable pub kinds_of : Table → List Place
+unfoldable pub kinds_of : Table → List InputKind
 unfolding tabulate input_kind_at
-kinds_of t = tabulate 8 (place_at t)
+kinds_of t = tabulate 8 (input_kind_at t)

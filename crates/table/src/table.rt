@@ -1,5 +1,5 @@
 // A truth table of up to eight inputs.
-ghost use Rattle.std.specs.Prelude.{◌≡◌, true, false, not, ℕ, ◌*◌, ◌^◌, ◌≤◌, ◌<◌, drop};
+ghost use Rattle.std.specs.Prelude.{◌≡◌, ◌↔◌, true, false, not, ℕ, ◌*◌, ◌^◌, ◌≤◌, ◌<◌, IsTrue, EachIndex, slice_index};
 ghost use Rattle.numbers.specs.Tests.{all_at_most};
 ghost use Rattle.table.specs.Table.{rows_of, rows, byte_count, bit_at, value, cared, row_byte, every_row, whole_table, is_whole, stray_value, spare_set};
 
@@ -26,9 +26,7 @@ pub fn row_bit(bits: &[u8; 32], row: usize) -> bool
     requires { row < 256 }
     ensures { result ≡ bit_at bits.now row }
 {
-    let at = row / 8;
-    let part = bits[at];
-    (part >> (row % 8)) % 2 == 1
+    (bits[row / 8] >> (row % 8)) % 2 == 1
 }
 
 // Returns the table's value on a row.
@@ -36,9 +34,7 @@ pub fn row_value(table: Table, row: usize) -> bool
     requires { row < 256 }
     ensures { result ≡ value table row }
 {
-    let at = row / 8;
-    let byte = table.bytes[at];
-    (byte >> (row % 8)) % 2 == 1
+    row_bit(&table.bytes, row)
 }
 
 // Whether a row is cared for.
@@ -46,16 +42,14 @@ pub fn row_cared(table: Table, row: usize) -> bool
     requires { row < 256 }
     ensures { result ≡ cared table row }
 {
-    let at = row / 8;
-    let care = table.cares[at];
-    (care >> (row % 8)) % 2 == 1
+    row_bit(&table.cares, row)
 }
 
 // Returns a byte with the bits of all its rows.
 fn full_byte(n: u8) -> u8
     requires { n ≤ 8 }
-    ensures by_index { (k : ℕ) → 8 * k < rows_of n → result ≡ row_byte (rows_of n) (λ row. true) k }
-    ensures by_index_2 { (b : ℕ) → b < 256 → (b ≤ result → b < 2 ^ rows_of n) × (result < b → 2 ^ rows_of n ≤ b) }
+    ensures rows { (k : ℕ) → 8 * k < rows_of n → result ≡ row_byte (rows_of n) (λ row. true) k }
+    ensures largest { (b : ℕ) → b < 256 → (b ≤ result → b < 2 ^ rows_of n) × (result < b → 2 ^ rows_of n ≤ b) }
 {
     if 3 <= n {
         return 255;
@@ -68,14 +62,8 @@ pub fn every_row(n: u8) -> [u8; 32]
     requires { n ≤ 8 }
     ensures { result ≡ every_row n }
 {
-    let full = full_byte(n);
-    let count = byte_count(n);
     let mut cares = [0u8; 32];
-    let mut at: usize = 0;
-    while at < count {
-        cares[at] = full;
-        at = at + 1;
-    }
+    cares[..byte_count(n)].fill(full_byte(n));
     cares
 }
 
@@ -91,19 +79,19 @@ pub fn whole_table(n: u8, bytes: [u8; 32]) -> Table
     }
 }
 
+// Whether each of these bytes is the given one.
+fn all_are(bytes: &[u8], given: u8) -> bool
+    ensures { IsTrue result ↔ EachIndex bytes.now (λ k. slice_index bytes.now k ≡ given) }
+{
+    bytes.iter().all(|byte| *byte == given)
+}
+
 // Whether a byte of the care bits is not full. Where all are, every row is cared for.
 pub fn some_free(table: Table) -> bool
     requires { table.n ≤ 8 }
     ensures { result ≡ false → (row : ℕ) → row < rows table → cared table row ≡ true }
 {
-    let count = byte_count(table.n);
-    let mut free: u8 = 0;
-    let mut at: usize = 0;
-    while at < count {
-        free = free | !table.cares[at];
-        at = at + 1;
-    }
-    free != 0
+    !all_are(&table.cares[..byte_count(table.n)], 255)
 }
 
 // Whether every row is cared for.
@@ -111,16 +99,7 @@ pub fn is_whole(table: Table) -> bool
     requires { (table.n ≤ 8) × (spare_set table.n table.cares ≡ false) }
     ensures { result ≡ is_whole table }
 {
-    let full = full_byte(table.n);
-    let count = byte_count(table.n);
-    let mut at: usize = 0;
-    while at < count {
-        if table.cares[at] != full {
-            return false;
-        }
-        at = at + 1;
-    }
-    true
+    all_are(&table.cares[..byte_count(table.n)], full_byte(table.n))
 }
 
 // Whether a row that is not cared for has a value bit.
@@ -129,25 +108,20 @@ pub fn stray_value(table: Table) -> bool
     ensures { result ≡ stray_value table }
 {
     let count = byte_count(table.n);
-    let mut stray: u8 = 0;
-    let mut at: usize = 0;
-    while at < count {
-        stray = stray | (table.bytes[at] & !table.cares[at]);
-        at = at + 1;
-    }
-    stray != 0
+    table.bytes[..count]
+        .iter()
+        .zip(&table.cares)
+        .any(|(values, cares)| *values & !*cares != 0)
 }
 
-// Whether a byte from a place on is not 0.
-fn nonzero_from(bytes: [u8; 32], from: usize) -> bool
-    requires { from ≤ 32 }
-    ensures { result ≡ not (all_at_most 0 (drop from bytes)) }
+// Whether a byte is not 0.
+// kept: the bits are gathered and not tested byte by byte, which was measured to take twice the time
+fn nonzero(bytes: &[u8]) -> bool
+    ensures { result ≡ not (all_at_most 0 bytes.now) }
 {
-    let mut set: u8 = 0;
-    let mut at = from;
-    while at < 32 {
-        set = set | bytes[at];
-        at = at + 1;
+    let mut set = 0u8;
+    for byte in bytes {
+        set |= *byte;
     }
     set != 0
 }
@@ -158,8 +132,5 @@ pub fn spare_set(n: u8, bytes: [u8; 32]) -> bool
     ensures { result ≡ spare_set n bytes }
 {
     let count = byte_count(n);
-    if full_byte(n) < bytes[count - 1] {
-        return true;
-    }
-    nonzero_from(bytes, count)
+    full_byte(n) < bytes[count - 1] || nonzero(&bytes[count..])
 }

@@ -5,7 +5,9 @@ use crate::stage;
 use job::job::Job;
 use papers::line::table_of;
 use papers::text::{digit, first, word};
+use types::stage::Stage;
 use types::state::State;
+use types::table::Table;
 use types::vector::Vector;
 
 // Returns the number that a word spells in base ten, modulo 2^32.
@@ -88,15 +90,31 @@ fn plain_state(line: &[u8]) -> State {
 // Returns the job of a line.
 pub fn job(line: &[u8]) -> Job {
     let mut state = plain_state(line);
-    let mut k: usize = 8;
-    while k < 64 && word(line, k).len() > 0 {
+    for k in (8..64usize).step_by(3) {
+        if word(line, k).is_empty() {
+            break;
+        }
         let at = number(word(line, k + 1)) as usize;
         state = with_number(state, first(word(line, k)), at, word(line, k + 2));
-        k = k + 3;
     }
     Job {
         table: table_of(line),
         state,
+    }
+}
+
+// Returns the job of a table all of whose numbers are 0, open: what a test shows beside a refusal.
+pub fn no_job(table: Table) -> Job {
+    Job {
+        table,
+        state: State {
+            k: 0,
+            v: full(0),
+            mark: 0,
+            s: full(0),
+            counts: [0u32; 256],
+            stage: Stage::Open,
+        },
     }
 }
 

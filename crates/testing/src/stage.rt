@@ -15,16 +15,12 @@ pub fn letter(stage: Stage) -> u8 {
 
 // Returns the stage of a letter; it is open for any other one.
 pub fn of(letter: u8) -> Stage {
-    if letter == b'F' {
-        return Stage::Found;
+    match letter {
+        b'F' => Stage::Found,
+        b'L' => Stage::Looped,
+        b'B' => Stage::Binate,
+        _ => Stage::Open,
     }
-    if letter == b'L' {
-        return Stage::Looped;
-    }
-    if letter == b'B' {
-        return Stage::Binate;
-    }
-    Stage::Open
 }
 
 // Writes a stage's letter.

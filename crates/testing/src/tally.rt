@@ -35,8 +35,7 @@ pub fn count(tally: Tally, number: u8, is_right: bool) -> Tally {
 // Writes the numbers that came out, each with how often, the sum, and how many answers were right.
 pub fn print(rt: &impl Print, name: &[u8], tally: Tally) -> io::Result<()> {
     show::word(rt, name)?;
-    let counts = tally.counts;
-    pairs(rt, counts)?;
+    pairs(rt, tally.counts)?;
     show::word(rt, b" sum")?;
     show::number(rt, tally.sum)?;
     show::word(rt, b" right")?;

@@ -1,11 +1,11 @@
 -- A text that is written into a buffer field by field: at each position the bytes that are left to write, the room for them, and that with
 -- them the whole text is written. Assumes nothing.
-use mathlib.Core.List.{List, [], ◌∷◌, ◌++◌}
-use Prim.Native.Nat.{ℕ, ◌+◌, ◌≤◌, ◌<◌}
+use mathlib.Core.List.{List, ◌++◌}
+use Prim.Native.Nat.{ℕ, ◌+◌, ◌≤◌}
 use native.Mathlib.Omega.{arith}
-use lib.ListN.{length, set, length-append}
+use lib.ListN.{length, length-append}
 use Rattle.codec.specs.Written.{Put}
-use Rattle.codec.proofs.WrittenLaws.{written_one, written_room, written_next}
+use Rattle.codec.proofs.WrittenLaws.{written_room, written_next}
 
 -- a text w goes into `old` at a position: `out` has its first bytes, and the rest is left to write from `here` on
 pub record Left (old : List ℕ) (at : ℕ) (w out : List ℕ) (here : ℕ) (rest : List ℕ) : Type 0 where
@@ -32,7 +32,3 @@ module _ {old : List ℕ} {at : ℕ} {w out : List ℕ} {here : ℕ} (x y : List
 pub line_done : {old w out rest last : List ℕ} {here next room : ℕ} → Left old 0 w out here rest → Put out here rest last next → length w ≤ room
     → Put old 0 w last next × (next ≤ room)
 line_done left p h = let q = left.done p in (q, omega (arith, q.0))
-
--- a byte that is stored is a field
-pub stored_byte : (out : List ℕ) (here b : ℕ) → here < length out → Put out here (b ∷ []) (set out here b) (here + 1)
-stored_byte out here b h = (omega arith, written_one out here b h)

@@ -10,9 +10,10 @@ fn digit_count(x: u64) -> usize
 {
     let mut count: usize = 1;
     let mut rest = x;
+    // kept: no index is counted, the number is divided until one digit is left
     while 10 <= rest {
-        rest = rest / 10;
-        count = count + 1;
+        rest /= 10;
+        count += 1;
     }
     count
 }
@@ -25,10 +26,11 @@ pub fn put_decimal(out: &mut [u8], at: usize, x: u64) -> usize
     let end = at + digit_count(x);
     let mut here = end;
     let mut rest = x;
+    // kept: no index is counted, the number is divided until one digit is left
     while 10 <= rest {
-        here = here - 1;
+        here -= 1;
         out[here] = (48 + rest % 10) as u8;
-        rest = rest / 10;
+        rest /= 10;
     }
     out[at] = (48 + rest) as u8;
     end

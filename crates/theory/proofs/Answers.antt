@@ -1,6 +1,7 @@
 -- What an ended state shows, from soundness alone: a found state's v is a gate of its function, and the counts of a looped or binate state
 -- balance, so that no gate exists. Looped: v = s, so the corrections counted add up to 0 in each component. Then of a job, on its table. The
 -- last part says it in the checker's words: a sound job keeps the ranges of 7 and 8. Assumes nothing.
+use Rattle.std.specs.Prelude.{Ok}
 use mathlib.Core.Path.{◌≡◌, refl, sym, ◌∙◌, ap, subst}
 use mathlib.Core.Logic.{◌⊎◌, inl, inr, ⊎_elim, ◌≢◌}
 use mathlib.Core.Bool.{Bool, true, false, not}
@@ -16,7 +17,7 @@ use Rattle.numbers.specs.Tests.{all_at_most}
 use Rattle.numbers.proofs.Int.{integers, parts_add, parts_neg}
 use Rattle.numbers.proofs.TestLaws.{not_passed, or_neither, all_at_most_at, all_at_most_from}
 use Rattle.types.specs.declared.table.Table.{Table}
-use Rattle.refusal.specs.Refusal.{answered, NoneBroken, none, also}
+use Rattle.refusal.specs.Refusal.{NoneBroken, none, also}
 use Rattle.cell.specs.Calls.{check_gate_rules, check_gate, check_witness_rules, check_witness}
 use Rattle.refusal.specs.TableRules.{table_rules}
 use Rattle.refusal.proofs.RefusalLaws.{none_broken_answered}
@@ -136,11 +137,11 @@ gate_in_range j s =
     ap not ((in_range_correct weight_limit j.table.n j.state.v.a j.state.v.b).1 (in_range_wider weight_limit (omega (arith, s.capped)) (sound_current s)))
 
 -- a found job's gate is accepted
-pub found_accepted : (j : Job) → Sound j → NoneBroken (table_rules j.table []) → j.state.stage ≡ Found → check_gate j.table (gate_of j) ≡ answered true
+pub found_accepted : (j : Job) → Sound j → NoneBroken (table_rules j.table []) → j.state.stage ≡ Found → check_gate j.table (gate_of j) ≡ Ok true
 found_accepted j s kept e =
-    none_broken_answered (check_gate_rules j.table (gate_of j)) (answered (realises j.state.v.a j.state.v.b (function_of j.table)))
+    none_broken_answered (check_gate_rules j.table (gate_of j)) (Ok (realises j.state.v.a j.state.v.b (function_of j.table)))
     (also (ap not (eq-eqb j.table.n j.table.n refl)) (all_kept j.table kept (also (gate_in_range j s) none)))
-    ∙ ap answered ((realises_correct j.state.v.a j.state.v.b (function_of j.table)).1 (found_realises j s e))
+    ∙ ap Ok ((realises_correct j.state.v.a j.state.v.b (function_of j.table)).1 (found_realises j s e))
 
 -- the counts of a job that has ended without a gate are within the limit
 count_in_range : (j : Job) → j.table.n ≤ 8 → Sound j → EndedWithout j → (r : ℕ) → count_of j.state.counts r ≤ count_limit
@@ -173,9 +174,9 @@ witness_in_range j n s e =
     (ap not s.past)
 
 -- the witness of a job that has ended without a gate is accepted
-pub ended_accepted : (j : Job) → Sound j → NoneBroken (table_rules j.table []) → EndedWithout j → check_witness j.table (witness_of j) ≡ answered true
+pub ended_accepted : (j : Job) → Sound j → NoneBroken (table_rules j.table []) → EndedWithout j → check_witness j.table (witness_of j) ≡ Ok true
 ended_accepted j s kept e =
     let n = kept_inputs j.table kept in
-    none_broken_answered (check_witness_rules j.table (witness_of j)) (answered (balances (function_of j.table) (count_of j.state.counts)))
+    none_broken_answered (check_witness_rules j.table (witness_of j)) (Ok (balances (function_of j.table) (count_of j.state.counts)))
     (all_kept j.table kept (also (witness_in_range j n s e) none))
-    ∙ ap answered ((balances_correct (function_of j.table) (count_of j.state.counts)).1 (ended_balances j n s e))
+    ∙ ap Ok ((balances_correct (function_of j.table) (count_of j.state.counts)).1 (ended_balances j n s e))

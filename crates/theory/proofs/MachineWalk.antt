@@ -3,7 +3,7 @@
 -- Assumes nothing.
 use mathlib.Core.Path.{◌≡◌, refl, ◌∙◌}
 use mathlib.Core.Bool.{Bool, true, false}
-use mathlib.Core.Option.{Option, some, none}
+use Rattle.std.specs.Prelude.{Option, Some, None}
 use Prim.Native.Nat.{ℕ, zero, suc, ◌+◌, ◌<◌}
 use native.Mathlib.Numerals.{add-one}
 use native.Mathlib.Omega.{arith}
@@ -31,7 +31,7 @@ use Rattle.theory.proofs.Corrections.{correction, correction_dot}
 -- ---- facts of K and v
 
 module _ (f : Function) (P : ℕ → Vector → Type 0)
-    (keeps : (k : ℕ) (v : Vector) (r : ℕ) → failing f v ≡ some r → P k v → P (k + 1) (corrected_by (f.value r) (levels f r) v)) where
+    (keeps : (k : ℕ) (v : Vector) (r : ℕ) → failing f v ≡ Some r → P k v → P (k + 1) (corrected_by (f.value r) (levels f r) v)) where
   -- the fact, of a state
   abbrev pub Holds : State → Type 0
   Holds x = P x.k x.v
@@ -41,8 +41,8 @@ module _ (f : Function) (P : ℕ → Vector → Type 0)
   mark_keeps false x p = p
 
   settle_keeps : (o : Option ℕ) (x : State) → Holds x → Holds (settle_by o x)
-  settle_keeps none x p = p
-  settle_keeps (some r) x p = p
+  settle_keeps None x p = p
+  settle_keeps (Some r) x p = p
 
   close_keeps : (b : Bool) (x : State) → Holds x → Holds (close_if f b x)
   unfolding settled marked
@@ -51,8 +51,8 @@ module _ (f : Function) (P : ℕ → Vector → Type 0)
 
   step_by_keeps : (o : Option ℕ) (x : State) → failing f x.v ≡ o → Holds x → Holds (step_by f o x)
   unfolding corrected closed
-  step_by_keeps none x e p = p
-  step_by_keeps (some r) x e p = close_keeps (same_vector (corrected f r x).v x.s) (corrected f r x) (keeps x.k x.v r e p)
+  step_by_keeps None x e p = p
+  step_by_keeps (Some r) x e p = close_keeps (same_vector (corrected f r x).v x.s) (corrected f r x) (keeps x.k x.v r e p)
 
   step_in_keeps : (s : Stage) (x : State) → Holds x → Holds (step_in f s x)
   unfolding step_in
@@ -68,8 +68,8 @@ module _ (f : Function) (P : ℕ → Vector → Type 0)
   run_keeps (suc m) x p = run_keeps m (step f x) (step_in_keeps x.stage x p)
 
   fresh_by_keeps : (o : Option ℕ) → P 0 zero_vector → Holds (fresh_by f o)
-  fresh_by_keeps none p = p
-  fresh_by_keeps (some place) p = p
+  fresh_by_keeps None p = p
+  fresh_by_keeps (Some place) p = p
 
   -- so it holds after a run of the fresh state where it holds of K 0 and v 0
   pub fresh_keeps : (m : ℕ) → P 0 zero_vector → Holds (run f m (fresh f))
@@ -102,7 +102,7 @@ failing_product : (f : Function) (v : Vector) (r : ℕ) → length v.a ≡ 8 →
 unfolding distance
 failing_product f v r e h = rw (correction_dot 8 (f.value r) (levels f r) v (omega arith)) (omega (integers, fails_margin f v r h))
 
-walked_keeps : (f : Function) (k : ℕ) (v : Vector) (r : ℕ) → failing f v ≡ some r → Walked f k v
+walked_keeps : (f : Function) (k : ℕ) (v : Vector) (r : ℕ) → failing f v ≡ Some r → Walked f k v
     → Walked f (k + 1) (corrected_by (f.value r) (levels f r) v)
 walked_keeps f k v r e w =
     let first = failing_some f v r e in

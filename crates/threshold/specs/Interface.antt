@@ -1,9 +1,9 @@
 -- The calls of the C interface: what each comes to, over the bytes of a record (document 01, "Records"; document 02, §3), its numbers, and the
--- room of the lent buffer. Each goes by what reading gives first, then `other_kind` for a kind that it does not take, then its own numbers. The
+-- room of the lent buffer. Each goes by what reading gives first, then 100 for a kind that it does not take, then its own numbers. The
 -- calls from hex digits and words stand in `digits/specs/Digits.antt` and `words/specs/Words.antt`, those on numbers, on fresh jobs and on how
 -- far a job has come in `requests/specs/Requests.antt`, those on what a job has found in `found_within/specs/Found.antt`. Definitions only. Assumes
 -- nothing.
-use Rattle.std.specs.Prelude.{List, ℕ}
+use Rattle.std.specs.Prelude.{List, ℕ, Ok}
 use Rattle.table.specs.Inputs.{kinds_of}
 use Rattle.table.specs.Chow.{chow_of}
 use Rattle.refusal.specs.Refusal.{Answered, and_then}
@@ -11,7 +11,8 @@ use Rattle.writers.specs.Calls.{fitted}
 use Rattle.certificates.specs.Certificate.{check_in, kind_in, value_in}
 use Rattle.inputs.specs.Inputs.{input_bytes, chow_bytes}
 use Rattle.handed.specs.Handed.{Handed, decided_back, carried_back}
-use Rattle.requests.specs.Taken.{parts_of, table_read, job_read}
+use Rattle.records.specs.Record.{read_record}
+use Rattle.requests.specs.Taken.{table_read, job_read}
 
 -- ---- decide and carry on
 
@@ -27,15 +28,15 @@ carried_on s budget room = and_then (job_read s) (carried_back budget room)
 
 -- kinds 2 and 3, whether the gate realises the table or the witness balances: 1 or 0
 unfoldable pub check : List ℕ → Answered ℕ
-check s = check_in (parts_of s)
+check s = and_then (read_record s) check_in
 
 -- the kind of a record that is whole and right, 1 to 6
 unfoldable pub kind : List ℕ → Answered ℕ
-kind s = kind_in (parts_of s)
+kind s = and_then (read_record s) (λ x. Ok (kind_in x))
 
 -- kinds 1 and 5, the table's value on a row, or kind 2, the gate's: 0 or 1; 14
 unfoldable pub value_on : List ℕ → ℕ → Answered ℕ
-value_on s row = value_in row (parts_of s)
+value_on s row = and_then (read_record s) (value_in row)
 
 -- ---- the inputs of a table, kind 1 or 5
 

@@ -5,6 +5,7 @@ ghost use Rattle.words.specs.Words.{from_words, from_cares};
 ghost use Rattle.digits.specs.Digits.{from_hex};
 
 use digits::digits::from_hex;
+use results::result::returned;
 use words::words::{from_cares, from_words};
 
 // Writes the table of so many inputs that hex digits stand for, the digit of the highest rows first, kind 1. Returns the length. Refusals: 2,
@@ -12,7 +13,7 @@ use words::words::{from_cares, from_words};
 pub fn threshold_from_hex(inputs: u32, digits: &[u8], out: &mut [u8]) -> i64
     ensures { Returned (from_hex inputs digits.now (length out.old)) out.old result out.new }
 {
-    from_hex(inputs, digits, out)
+    returned(from_hex(inputs, digits, out))
 }
 
 // Writes the table of so many inputs that words of 64 rows stand for, the word of the lowest rows first, kind 1. Returns the length. Refusals:
@@ -20,7 +21,7 @@ pub fn threshold_from_hex(inputs: u32, digits: &[u8], out: &mut [u8]) -> i64
 pub fn threshold_from_words(inputs: u32, words: &[u64], out: &mut [u8]) -> i64
     ensures { Returned (from_words inputs words.now (length out.old)) out.old result out.new }
 {
-    from_words(inputs, words, out)
+    returned(from_words(inputs, words, out))
 }
 
 // Writes the table of so many inputs that words of 64 rows stand for, with the rows cared for that care words stand for: kind 1 if every row is,
@@ -28,5 +29,5 @@ pub fn threshold_from_words(inputs: u32, words: &[u64], out: &mut [u8]) -> i64
 pub fn threshold_from_cares(inputs: u32, words: &[u64], cares: &[u64], out: &mut [u8]) -> i64
     ensures { Returned (from_cares inputs words.now cares.now (length out.old)) out.old result out.new }
 {
-    from_cares(inputs, words, cares, out)
+    returned(from_cares(inputs, words, cares, out))
 }

@@ -5,6 +5,7 @@ ghost use Rattle.findings.specs.Findings.{GateHanded};
 ghost use Rattle.found_within.specs.Found.{find_gate, find_witness};
 
 use found_within::found::{find_gate, find_witness};
+use results::result::returned;
 
 // Carries the fresh job of a kind 1 or 5 record's table, or the job of a kind 4 or 6 record, on by a budget. If it has found a gate, writes its
 // weights, from input 1 on, sets `threshold` to T and `made` to the corrections made, and returns n. Refusals: 1 to 9 and 16 as the record is
@@ -19,7 +20,7 @@ pub fn threshold_find_gate(
     ensures { GateHanded (find_gate bytes.now budget (length weights.old)) weights.old threshold.old made.old
         result weights.new threshold.new made.new }
 {
-    find_gate(bytes, budget, weights, threshold, made)
+    returned(find_gate(bytes, budget, weights, threshold, made))
 }
 
 // The same for a witness: if the job has ended with one, writes the count of each row, from row 0 on, sets `made`, and returns the number of
@@ -28,5 +29,5 @@ pub fn threshold_find_witness(bytes: &[u8], budget: u32, counts: &mut [u32], mad
     ensures { HandedOver (find_witness bytes.now budget (length counts.old)) counts.old made.old
         result counts.new made.new }
 {
-    find_witness(bytes, budget, counts, made)
+    returned(find_witness(bytes, budget, counts, made))
 }

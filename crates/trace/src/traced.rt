@@ -42,12 +42,10 @@ pub fn is_traced(table: Table, core: Core, counts: &[u32; 256]) -> bool
         return false;
     }
     let n = table.n as usize;
-    let mut input: usize = 0;
-    while input <= n {
+    for input in 0..=n {
         if !traced_at(core.v, core.s, input, added[input], taken[input]) {
             return false;
         }
-        input = input + 1;
     }
     true
 }

@@ -1,11 +1,17 @@
-// The kind of a record (document 01, "Records"; document 02, §3).
+// The kind byte of a record (document 01, "Records"; document 02, §3).
 
-// What a record that was read holds: a table, a table with a gate, a table with a witness or an open job; or the number of a refusal.
-#[derive(Clone, Copy)]
-pub enum Kind {
-    Table,
-    Gate,
-    Witness,
-    Job,
-    Refused(u8),
+// A record's family, by what follows its table: nothing, a gate, a witness, or the numbers of an open job.
+#[derive(Clone, Copy, PartialEq, Eq)]
+pub enum Family {
+    Tables,
+    Gates,
+    Witnesses,
+    Jobs,
+}
+
+// What a kind byte says: the family, and whether care bytes follow the value bytes of the table.
+#[derive(Clone, Copy, PartialEq, Eq)]
+pub struct Head {
+    pub family: Family,
+    pub cares: bool,
 }

@@ -3,7 +3,7 @@ use crate::stage::Stage;
 use crate::vector::Vector;
 
 // K corrections made (k), the vector v, the mark M with the copy s of v taken there, and a count for each row since.
-#[derive(Clone, Copy)]
+#[derive(Clone, Copy, PartialEq, Eq)]
 pub struct State {
     pub k: u32,
     pub v: Vector,

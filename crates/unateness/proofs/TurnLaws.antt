@@ -3,7 +3,7 @@
 use mathlib.Core.Path.{◌≡◌, refl, sym, ◌∙◌, ap, ap₂}
 use mathlib.Core.Bool.{Bool, true, false, not, ◌&&◌, ◌||◌}
 use mathlib.Core.Logic.{⊎_elim}
-use mathlib.Core.Option.{Option, some, none}
+use Rattle.std.specs.Prelude.{Option, Some, None}
 use Prim.Native.Nat.{ℕ, zero, suc, ◌+◌, ◌-◌, ◌*◌, ◌/◌, ◌%◌, ◌^◌, ◌≤◌, ◌<◌}
 use native.Mathlib.Nat.{eq-or-lt_of_le, le_of_suc-le-suc}
 use native.Mathlib.Decide.{dec_le}
@@ -12,7 +12,8 @@ use native.Mathlib.Omega.{arith}
 use lib.Bits.{bit_and, bit_or}
 use lib.Dec.{eqb}
 use borrow.Author.Tests.{lt-ltb, le-ltb, eqb-true, ne_eqb}
-use Rattle.numbers.specs.Tests.{is_some, same_bool}
+use Rattle.numbers.specs.Tests.{same_bool}
+use Rattle.std.specs.Prelude.{is_some}
 use Rattle.numbers.proofs.TestLaws.{no_true, or_neither, or_false_left, or_false_right}
 use Rattle.types.specs.declared.table.Table.{Table}
 use Rattle.table.specs.Table.{rows, value, cared, function_of}
@@ -125,12 +126,12 @@ module _ (t : Table) (to : Bool) (place : ℕ) (k : place < t.n) where
       by false e = rw e refl
 
   -- where the search finds nothing, nothing turns
-  turned_none : first_turn (function_of t) to place ≡ none → (r : ℕ) → Dec (rows t ≤ r) → turned (on_side t) to place r ≡ false
+  turned_none : first_turn (function_of t) to place ≡ None → (r : ℕ) → Dec (rows t ≤ r) → turned (on_side t) to place r ≡ false
   turned_none o r (yes past) = turned_past r past
   turned_none o r (no before) = turned_in r (omega arith) ∙ first_turn_none (function_of t) to place o r (omega arith)
 
   -- where it finds a row, some row of the table turns
-  turned_some : (q : ℕ) → first_turn (function_of t) to place ≡ some q → ((r : ℕ) → r < rows t → turned (on_side t) to place r ≡ false) → ⊥
+  turned_some : (q : ℕ) → first_turn (function_of t) to place ≡ Some q → ((r : ℕ) → r < rows t → turned (on_side t) to place r ≡ false) → ⊥
   turned_some q o fails =
       let first = first_turn_some (function_of t) to place q o in
       let inside : q < rows t = omega (arith, first.inside) in
@@ -141,8 +142,8 @@ module _ (t : Table) (to : Bool) (place : ℕ) (k : place < t.n) where
   turn_found {x} m all e = by (first_turn (function_of t) to place) refl
     where
       by : (o : Option ℕ) → first_turn (function_of t) to place ≡ o → not (eqb x 0) ≡ is_some (first_turn (function_of t) to place)
-      by none o = rw (o, e, gather_zero (turned (on_side t) to place) m (λ r. turned_none o r (dec_le (rows t) r)))
-      by (some q) o =
+      by None o = rw (o, e, gather_zero (turned (on_side t) to place) m (λ r. turned_none o r (dec_le (rows t) r)))
+      by (Some q) o =
           rw o
           (ap not
           (ne_eqb x 0 (λ z. turned_some q o (λ r l. zero_gathered (turned (on_side t) to place) m (sym e ∙ z) r (omega arith)))))

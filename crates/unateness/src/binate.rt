@@ -1,14 +1,11 @@
 // The binate input of a table, and the counts that show it.
-ghost use Rattle.std.specs.Prelude.{◌≡◌, ℕ, ◌+◌, ◌*◌, ◌^◌, ◌≤◌, ◌<◌, get_or};
-ghost use Rattle.std.proofs.Math.Option.{Option, some};
-ghost use Rattle.table.specs.Inputs.{lowest_of};
+ghost use Rattle.std.specs.Prelude.{◌≡◌, ℕ, ◌+◌, ◌*◌, ◌^◌, ◌≤◌, ◌<◌, get_or, Option, Some};
 ghost use Rattle.function.specs.Binate.{pair_more, binate_at, binate_place, binate_counts};
 ghost use Rattle.unateness.specs.Words.{side_words};
 ghost use Rattle.table.specs.Table.{rows, function_of};
 
 use crate::words::{pairs_at, rows_without, side_words};
 use rowwise::inputs::first_turn;
-use table::lowest::Lowest;
 use table::table::row_count;
 use types::table::Table;
 
@@ -20,48 +17,42 @@ fn binate_at(trues: &[u64; 4], falses: &[u64; 4], words: usize, place: usize) ->
     let lacking = rows_without(place);
     let mut rises: u64 = 0;
     let mut falls: u64 = 0;
-    let mut at: usize = 0;
-    while at < words {
+    for at in 0..words {
         let on = pairs_at(trues, lacking, place, at);
         let off = pairs_at(falses, lacking, place, at);
-        rises = rises | (off.own & on.partner);
-        falls = falls | (on.own & off.partner);
-        at = at + 1;
+        rises |= off.own & on.partner;
+        falls |= on.own & off.partner;
     }
     rises != 0 && falls != 0
 }
 
 // Returns the place of the lowest binate input.
-pub fn binate_place(table: Table) -> Lowest
+pub fn binate_place(table: Table) -> Option<usize>
     requires { table.n ≤ 8 }
-    ensures { result ≡ lowest_of (binate_place (function_of table)) }
+    ensures { result ≡ binate_place (function_of table) }
 {
     let sides = side_words(table);
-    let trues = sides.trues;
-    let falses = sides.falses;
     let n = table.n as usize;
     let words = (row_count(table.n) + 63) / 64;
-    let mut place: usize = 0;
-    while place < n {
-        if binate_at(&trues, &falses, words, place) {
-            return Lowest::At(place);
+    for place in 0..n {
+        if binate_at(&sides.trues, &sides.falses, words, place) {
+            return Some(place);
         }
-        place = place + 1;
     }
-    Lowest::Nowhere
+    None
 }
 
 // Adds one to the count of the row that a search found, and to that of its partner with the place's input true.
-fn add_pair(counts: &mut [u32; 256], place: usize, turn: Lowest)
-    requires { (place < 8) × ((row : ℕ) → turn ≡ lowest_of (some row) → row + 2 ^ place < 256) × ((row : ℕ) → get_or counts.old row 0 ≤ 2) }
-    ensures { (o : Option ℕ) → turn ≡ lowest_of o → counts.new ≡ pair_more 2 place o counts.old }
+fn add_pair(counts: &mut [u32; 256], place: usize, turn: Option<usize>)
+    requires { (place < 8) × ((row : ℕ) → turn ≡ Some row → row + 2 ^ place < 256) × ((row : ℕ) → get_or counts.old row 0 ≤ 2) }
+    ensures { (o : Option ℕ) → turn ≡ o → counts.new ≡ pair_more 2 place o counts.old }
 {
-    let Lowest::At(row) = turn else {
+    let Some(row) = turn else {
         return;
     };
-    counts[row] = counts[row] + 1;
+    counts[row] += 1;
     let partner = row + (1usize << place);
-    counts[partner] = counts[partner] + 1;
+    counts[partner] += 1;
 }
 
 // Returns the counts of a binate table: 1 at the lowest row where the place's input rises, at the lowest where it falls, and at their

@@ -8,23 +8,14 @@ ghost use Rattle.scan.specs.Scan.{in_table};
 use table::table::row_count;
 use types::table::Table;
 
-// Returns a byte as a word.
-fn wide(byte: u8) -> u64
-    ensures { (result ≡ byte) × (byte < 256) }
-{
-    byte as u64
-}
-
 // Returns the eight bytes from `first` on as one number, lowest byte first.
 fn eight_bytes(bytes: &[u8; 32], first: usize) -> u64
     requires { first ≤ 24 }
     ensures { result ≡ packed 64 (bits_from bytes.now (8 * first)) }
 {
-    let mut word: u64 = 0;
-    let mut at: usize = 0;
-    while at < 8 {
-        word = word + (wide(bytes[first + at]) << (8 * at));
-        at = at + 1;
+    let mut word = 0u64;
+    for (at, byte) in bytes[first..first + 8].iter().enumerate() {
+        word += u64::from(*byte) << (8 * at);
     }
     word
 }
@@ -59,17 +50,13 @@ pub fn side_words(table: Table) -> Sides
     ensures { result ≡ side_words table }
 {
     let rows = row_count(table.n);
-    let bytes = table.bytes;
-    let cares = table.cares;
     let mut trues = [0u64; 4];
     let mut falses = [0u64; 4];
-    let mut at: usize = 0;
-    while at < 4 {
-        let cared = word_at(&cares, rows, at);
-        let values = eight_bytes(&bytes, 8 * at);
+    for at in 0..4 {
+        let cared = word_at(&table.cares, rows, at);
+        let values = eight_bytes(&table.bytes, 8 * at);
         trues[at] = cared & values;
         falses[at] = cared & !values;
-        at = at + 1;
     }
     Sides { trues, falses }
 }
@@ -82,6 +69,7 @@ pub struct Pairs {
 }
 
 // Returns which of 64 rows lack the input of a place below 6. Of a higher place the answer is not used.
+#[tactic(auto, unfolding(numbers::specs::Packed::packed))]
 pub fn rows_without(place: usize) -> u64
     ensures { place < 6 → result ≡ packed 64 (lacks place) }
 {
@@ -91,7 +79,8 @@ pub fn rows_without(place: usize) -> u64
         2 => 0x0F0F0F0F0F0F0F0F,
         3 => 0x00FF00FF00FF00FF,
         4 => 0x0000FFFF0000FFFF,
-        _ => 0x00000000FFFFFFFF,
+        5 => 0x00000000FFFFFFFF,
+        _ => 0,
     }
 }
 

@@ -1,5 +1,6 @@
 -- Tables as words of 64 rows, those of the lowest rows first, with words of care bits or without (docs/FORMAT.md, "Words"). No document has
 -- these calls, and their own number is 103. Definitions only. Assumes nothing.
+use Rattle.types.specs.declared.refusal.Refusal.TheVariants as Refusal'
 use Rattle.std.specs.Prelude.{Bool, List, [], ◌∷◌, ℕ, ◌+◌, ◌/◌, ◌%◌, ltb, length, get_or}
 use Rattle.numbers.specs.Packed.{bit_in}
 use Rattle.table.specs.Table.{rows_of}
@@ -17,7 +18,7 @@ word_row words r = bit_in (get_or words (r / 64) 0) (r % 64)
 
 -- 103: fewer words than the table has
 abbrev pub few_words : ℕ → List ℕ → Rule
-few_words n words = rule 103 (ltb (length words) (word_count n))
+few_words n words = rule Refusal'.Words (ltb (length words) (word_count n))
 
 -- the record of the table that words stand for: 2, 103, 12
 abbrev pub from_words : ℕ → List ℕ → ℕ → Answered (List ℕ)

@@ -1,16 +1,13 @@
 // A table from words of 64 rows, those of the lowest rows first, with words of care bits or without.
 ghost use Rattle.std.specs.Prelude.{◌≡◌, ◌*◌, ◌/◌, ◌%◌, ◌^◌, ◌≤◌, ◌<◌, ltb, length};
 ghost use Rattle.table.specs.Table.{rows_of, row_byte, row_bytes};
-ghost use Rattle.results.specs.Result.{Returned};
+ghost use Rattle.writers.specs.Calls.{WroteBytes};
 ghost use Rattle.words.specs.Words.{word_count, word_row, from_words, from_cares};
 
 use imports::made::{kept_bits, put_table_record};
-use results::result::refusal;
 use table::table::{byte_count, row_count, whole_table};
+use types::refusal::Refusal;
 use types::table::Table;
-
-// The number of too few words.
-const FEW_WORDS: u8 = 103;
 
 // Returns a byte of a word, the lowest first.
 fn byte_of(word: u64, at: usize) -> u8
@@ -35,10 +32,8 @@ fn word_bytes(words: &[u64], n: u8) -> [u8; 32]
 {
     let count = byte_count(n);
     let mut bytes = [0u8; 32];
-    let mut at: usize = 0;
-    while at < count {
+    for at in 0..count {
         bytes[at] = word_byte(words, n, at);
-        at = at + 1;
     }
     bytes
 }
@@ -52,33 +47,33 @@ fn few_words(words: &[u64], n: u8) -> bool
 }
 
 // Writes the record of the table that words stand for. Returns the length. Refusals: 2, 103, 12.
-pub fn from_words(inputs: u32, words: &[u64], out: &mut [u8]) -> i64
-    ensures { Returned (from_words inputs words.now (length out.old)) out.old result out.new }
+pub fn from_words(inputs: u32, words: &[u64], out: &mut [u8]) -> Result<u32, Refusal>
+    ensures { WroteBytes (from_words inputs words.now (length out.old)) out.old result out.new }
 {
     if 8 < inputs {
-        return refusal(2);
+        return Err(Refusal::Inputs);
     }
     let n = inputs as u8;
     if few_words(words, n) {
-        return refusal(FEW_WORDS);
+        return Err(Refusal::Words);
     }
     put_table_record(whole_table(n, word_bytes(words, n)), out)
 }
 
 // Writes the record of the table that words stand for, with the rows cared for that care words stand for. Returns the length. Refusals: 2, 103,
 // 16, 12.
-pub fn from_cares(inputs: u32, words: &[u64], cares: &[u64], out: &mut [u8]) -> i64
-    ensures { Returned (from_cares inputs words.now cares.now (length out.old)) out.old result out.new }
+pub fn from_cares(inputs: u32, words: &[u64], cares: &[u64], out: &mut [u8]) -> Result<u32, Refusal>
+    ensures { WroteBytes (from_cares inputs words.now cares.now (length out.old)) out.old result out.new }
 {
     if 8 < inputs {
-        return refusal(2);
+        return Err(Refusal::Inputs);
     }
     let n = inputs as u8;
     if few_words(words, n) {
-        return refusal(FEW_WORDS);
+        return Err(Refusal::Words);
     }
     if few_words(cares, n) {
-        return refusal(FEW_WORDS);
+        return Err(Refusal::Words);
     }
     let bytes = word_bytes(words, n);
     let cares = word_bytes(cares, n);

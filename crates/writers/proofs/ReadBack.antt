@@ -1,4 +1,7 @@
 -- Reading what was written gives the same record: each body, wherever it stands, and the whole. Assumes nothing.
+use Rattle.records.specs.declared.record.Record.TheVariants as Record'
+use Rattle.std.specs.Prelude.{Ok}
+use Rattle.types.specs.declared.refusal.Refusal.TheVariants as Refusal'
 use mathlib.Core.Path.{◌≡◌, refl, sym, ◌∙◌, ap, subst}
 use mathlib.Core.Bool.{Bool, true, false, not}
 use mathlib.Core.List.{List, [], ◌∷◌, ◌++◌}
@@ -13,7 +16,7 @@ use Rattle.types.specs.declared.witness.Witness.{Witness}
 use Rattle.table.specs.Table.{rows}
 use Rattle.table.specs.Gate.{weight_limit, in_range}
 use Rattle.table.proofs.TableLaws.{rows_le}
-use Rattle.refusal.specs.Refusal.{Rule, rule, Answered, answered, checked, NoneBroken}
+use Rattle.refusal.specs.Refusal.{Rule, rule, Answered, checked, NoneBroken}
 use Rattle.cell.specs.Calls.{gate_rules, witness_rules}
 use Rattle.refusal.proofs.RefusalLaws.{answered_none_broken}
 use Rattle.refusal.proofs.TableChecked.{kept_inputs}
@@ -37,7 +40,8 @@ use Rattle.codec.proofs.VectorFieldLaws.{vector_read}
 use Rattle.codec.proofs.RowListRead.{rows_read}
 use Rattle.codec.proofs.KindLaws.{every_taken, kind_read}
 use Rattle.codec.proofs.TableFieldLaws.{table_read_lem}
-use Rattle.records.specs.Record.{Record, of_table, of_gate, of_witness, of_job, family, table_in, head_in, gate_vector, vector_gate, job_bytes, body_bytes, record_bytes, gate_at, witness_at, open_job, unsound_job, counts_at, job_at, rest_at, body_at, bytes_left, record_at, single_at, read_record}
+use Rattle.records.specs.declared.record.Record.{Record}
+use Rattle.records.specs.Record.{family, table_in, head_in, gate_vector, vector_gate, job_bytes, body_bytes, record_bytes, gate_at, witness_at, open_job, unsound_job, counts_at, job_at, rest_at, body_at, bytes_left, record_at, single_at, read_record}
 use Rattle.writers.specs.Calls.{too_short, record_rules, write_record}
 use Rattle.bodies.proofs.RecordParts.{Shaped, held, rest_bytes, kind_and_body, body_parts, same_inputs, gate_in_limits, witness_fits, savable}
 use Rattle.bodies.proofs.BodyLaws.{job_bytes_lem, job_count}
@@ -56,15 +60,15 @@ job_back j sound e =
 
 -- what follows s in a job's record, and the whole job's part, read where they stand
 module _ (j : Job) (few : j.table.n ≤ 8) (sound : Sound j) (opened : j.state.stage ≡ Open) (s : List ℕ) where
-  counts_read_lem : (at : ℕ) → Stands s at (row_list_bytes j.state.counts) → counts_at j.table j.state.k j.state.v j.state.s s at ≡ answered (field (of_job j) (at + length (row_list_bytes j.state.counts)))
+  counts_read_lem : (at : ℕ) → Stands s at (row_list_bytes j.state.counts) → counts_at j.table j.state.k j.state.v j.state.s s at ≡ Ok (field (Record'.Job j) (at + length (row_list_bytes j.state.counts)))
   counts_read_lem at stands =
       let next = at + length (row_list_bytes j.state.counts) in
-      ap (λ (r : Reading RowList). onward r (λ list q. checked (unsound_job list (open_job j.table j.state.k j.state.v j.state.s list.counts) ∷ []) (answered (field (of_job (open_job j.table j.state.k j.state.v j.state.s list.counts)) q))))
+      ap (λ (r : Reading RowList). onward r (λ list q. checked (unsound_job list (open_job j.table j.state.k j.state.v j.state.s list.counts) ∷ []) (Ok (field (Record'.Job (open_job j.table j.state.k j.state.v j.state.s list.counts)) q))))
       (rows_read false (rows j.table) j.state.counts s at (rows_le few) sound.shaped.counts (savable j sound opened).limit sound.past (λ e. absurd (no_true e)) stands)
-      ∙ ap (λ (i : Job). checked (rule 9 (not (is_sound i)) ∷ []) (answered (field (of_job i) next))) (job_back j sound opened)
-      ∙ ap (λ (b : Bool). checked (rule 9 (not b) ∷ []) (answered (field (of_job j) next))) ((is_sound_correct j).1 sound)
+      ∙ ap (λ (i : Job). checked (rule Refusal'.Unsound (not (is_sound i)) ∷ []) (Ok (field (Record'.Job i) next))) (job_back j sound opened)
+      ∙ ap (λ (b : Bool). checked (rule Refusal'.Unsound (not b) ∷ []) (Ok (field (Record'.Job j) next))) ((is_sound_correct j).1 sound)
 
-  job_read_lem : (at : ℕ) → Stands s at (job_bytes j) → job_at j.table s at ≡ answered (field (of_job j) (at + length (job_bytes j)))
+  job_read_lem : (at : ℕ) → Stands s at (job_bytes j) → job_at j.table s at ≡ Ok (field (Record'.Job j) (at + length (job_bytes j)))
   job_read_lem at stands =
       let n = j.table.n in
       let keeps = savable j sound opened in
@@ -83,38 +87,38 @@ module _ (j : Job) (few : j.table.n ≤ 8) (sound : Sound j) (opened : j.state.s
       ∙ ap (λ (r : Reading Vector). onward r (λ v q. onward (vector_at false n s q) (λ w e. counts_at j.table j.state.k v w s e))) second
       ∙ ap (λ (r : Reading Vector). onward r (λ w e. counts_at j.table j.state.k j.state.v w s e)) third
       ∙ counts_read_lem (at + length number + length current + length copied) after-copied
-      ∙ ap (λ (next : ℕ). answered (field (of_job j) next)) (omega (arith, job_count j))
+      ∙ ap (λ (next : ℕ). Ok (field (Record'.Job j) next)) (omega (arith, job_count j))
 
 -- the numbers of a gate, and the counts of a witness, read where they stand
 gate_read_lem : (t : Table) (g : Gate) {others : List Rule} → length g.weights ≡ 8 → NoneBroken (gate_rules t g others) → (s : List ℕ) (at : ℕ)
-    → Stands s at (vector_bytes t.n (gate_vector g)) → gate_at t s at ≡ answered (field (of_gate t g) (at + length (vector_bytes t.n (gate_vector g))))
+    → Stands s at (vector_bytes t.n (gate_vector g)) → gate_at t s at ≡ Ok (field (Record'.Gate t g) (at + length (vector_bytes t.n (gate_vector g))))
 gate_read_lem t g eight kept s at stands =
     let same = same_inputs t g kept in
     let range : in_range weight_limit t.n g.weights g.threshold ≡ true =
     subst (λ (n : ℕ). in_range weight_limit n g.weights g.threshold ≡ true) same.0 (gate_in_limits t g kept) in
-    ap (λ (r : Reading Vector). onward r (λ v next. answered (field (of_gate t (vector_gate t.n v)) next))) (vector_read true t.n (gate_vector g) s at (kept_inputs t same.1) eight range stands)
-    ∙ ap (λ (h : Gate). answered (field (of_gate t h) (at + length (vector_bytes t.n (gate_vector g))))) (gate_back t.n g same.0)
+    ap (λ (r : Reading Vector). onward r (λ v next. Ok (field (Record'.Gate t (vector_gate t.n v)) next))) (vector_read true t.n (gate_vector g) s at (kept_inputs t same.1) eight range stands)
+    ∙ ap (λ (h : Gate). Ok (field (Record'.Gate t h) (at + length (vector_bytes t.n (gate_vector g))))) (gate_back t.n g same.0)
 
 witness_read : (t : Table) (w : Witness) {others : List Rule} → length w.counts ≡ 256 → NoneBroken (witness_rules t w others) → (s : List ℕ) (at : ℕ)
-    → Stands s at (row_list_bytes w.counts) → witness_at t s at ≡ answered (field (of_witness t w) (at + length (row_list_bytes w.counts)))
+    → Stands s at (row_list_bytes w.counts) → witness_at t s at ≡ Ok (field (Record'.Witness t w) (at + length (row_list_bytes w.counts)))
 witness_read t w full kept s at stands =
     let fit = witness_fits t w kept in
-    ap (λ (r : Reading RowList). onward r (λ list next. answered (field (of_witness t (record { counts = list.counts })) next)))
+    ap (λ (r : Reading RowList). onward r (λ list next. Ok (field (Record'.Witness t (record { counts = list.counts })) next)))
     (rows_read true (rows t) w.counts s at (rows_le (kept_inputs t kept)) full fit.limit fit.past (λ e. fit.some) stands)
 
 -- what follows the table, read where it stands, by the family
 rest_read : (x : Record) (others : List Rule) → Shaped x → NoneBroken (record_rules x others) → (s : List ℕ) (at : ℕ) → Stands s at (rest_bytes x)
-    → rest_at (family x) (table_in x) s at ≡ answered (field x (at + length (rest_bytes x)))
+    → rest_at (family x) (table_in x) s at ≡ Ok (field x (at + length (rest_bytes x)))
 unfolding rest_at
-rest_read (of_table t) others held kept s at stands = ap (λ (next : ℕ). answered (field (of_table t) next)) (omega arith)
-rest_read (of_gate t g) others (held, eight) kept s at stands = gate_read_lem t g eight (kept_gate t g others kept) s at stands
-rest_read (of_witness t w) others (held, full) kept s at stands = witness_read t w full (kept_witness t w others kept) s at stands
-rest_read (of_job j) others held kept s at stands =
+rest_read (Record'.Table t) others held kept s at stands = ap (λ (next : ℕ). Ok (field (Record'.Table t) next)) (omega arith)
+rest_read (Record'.Gate t g) others (held, eight) kept s at stands = gate_read_lem t g eight (kept_gate t g others kept) s at stands
+rest_read (Record'.Witness t w) others (held, full) kept s at stands = witness_read t w full (kept_witness t w others kept) s at stands
+rest_read (Record'.Job j) others held kept s at stands =
     job_read_lem j (kept_inputs j.table kept) (kept_sound j kept) (kept_open j others kept) s at stands
 
 -- a body is read as its record, wherever it stands, by what its kind byte says
 pub body_read : (x : Record) (others : List Rule) → Shaped x → NoneBroken (record_rules x others) → (s : List ℕ) (at : ℕ) → at ≤ length s
-    → Stands s at (body_bytes x) → body_at (head_in x) s at ≡ answered (field x (at + length (body_bytes x)))
+    → Stands s at (body_bytes x) → body_at (head_in x) s at ≡ Ok (field x (at + length (body_bytes x)))
 unfolding body_at
 body_read x others shaped kept s at inside stands =
     let table = table_bytes (table_in x) in
@@ -123,10 +127,10 @@ body_read x others shaped kept s at inside stands =
     let first = table_read_lem (table_in x) s at (kept_table x others kept) (held x shaped) inside (stands_front s at table rest parts) in
     ap (λ (r : Reading Table). onward r (λ t p. rest_at (family x) t s p)) first
     ∙ rest_read x others shaped kept s (at + length table) (stands_back s at table rest parts)
-    ∙ ap (λ (next : ℕ). answered (field x next)) (after_both at table rest ∙ ap (λ (l : List ℕ). at + length l) (sym (body_parts x)))
+    ∙ ap (λ (next : ℕ). Ok (field x next)) (after_both at table rest ∙ ap (λ (l : List ℕ). at + length l) (sym (body_parts x)))
 
 -- a record's bytes, alone, are read as the record
-record_read : (x : Record) (others : List Rule) → Shaped x → NoneBroken (record_rules x others) → read_record (record_bytes x) ≡ answered x
+record_read : (x : Record) (others : List Rule) → Shaped x → NoneBroken (record_rules x others) → read_record (record_bytes x) ≡ Ok x
 unfolding record_at single_at
 record_read x others shaped kept =
     let s = record_bytes x in
@@ -141,13 +145,13 @@ record_read x others shaped kept =
     let whole : length s ≡ 1 + length body = omega (arith, ap length (kind_and_body x)) in
     ap (λ (r : Reading Head). onward (onward r (λ g p. body_at g s p)) (ended s)) first
     ∙ ap (λ (r : Reading Record). onward r (ended s)) second
-    ∙ ap (λ (b : Bool). checked (rule 6 b ∷ []) (answered x)) (le-ltb (0 + 1 + length body) (length s) (omega arith))
+    ∙ ap (λ (b : Bool). checked (rule Refusal'.BytesLeft b ∷ []) (Ok x)) (le-ltb (0 + 1 + length body) (length s) (omega arith))
   where
     ended : List ℕ → Record → ℕ → Answered Record
-    ended s y next = checked (bytes_left s next ∷ []) (answered y)
+    ended s y next = checked (bytes_left s next ∷ []) (Ok y)
 
 -- reading what was written gives the same record
-pub read_back : (x : Record) → Shaped x → (room : ℕ) (bytes : List ℕ) → write_record x room ≡ answered bytes → read_record bytes ≡ answered x
+pub read_back : (x : Record) → Shaped x → (room : ℕ) (bytes : List ℕ) → write_record x room ≡ Ok bytes → read_record bytes ≡ Ok x
 read_back x shaped room bytes e =
     let rules = too_short room (record_bytes x) ∷ [] in
     let kept = answered_none_broken (record_rules x rules) (record_bytes x) bytes e in

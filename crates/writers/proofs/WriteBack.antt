@@ -1,4 +1,7 @@
 -- Writing what was read gives the same bytes: each body, wherever it stands, and the whole. Assumes nothing.
+use Rattle.records.specs.declared.record.Record.TheVariants as Record'
+use Rattle.types.specs.declared.refusal.Refusal.TheVariants as Refusal'
+use Rattle.std.specs.Prelude.{Ok}
 use mathlib.Core.Path.{◌≡◌, refl, sym, ◌∙◌, ap, ap₂, subst}
 use mathlib.Core.Bool.{Bool, true, false, not, cond, ◌&&◌, not-not}
 use mathlib.Core.List.{List, [], ◌∷◌, ◌++◌}
@@ -13,18 +16,18 @@ use Rattle.types.specs.declared.table.Table.{Table}
 use Rattle.table.specs.Table.{rows, is_whole}
 use Rattle.table.specs.Witness.{unfit, count_limit}
 use Rattle.table.proofs.TableLaws.{rows_le}
-use Rattle.refusal.specs.Refusal.{Rule, answered, and_then, checked, NoneBroken, none, also}
+use Rattle.refusal.specs.Refusal.{Rule, and_then, checked, NoneBroken, none, also}
 use Rattle.refusal.specs.TableRules.{table_rules}
 use Rattle.refusal.proofs.RefusalLaws.{none_broken_answered}
 use Rattle.refusal.proofs.TableChecked.{kept_inputs, all_kept}
 use Rattle.types.specs.declared.vector.Vector.{Vector}
 use Rattle.job.specs.Sound.{is_sound}
 use Rattle.job.proofs.JobChecked.{job_all_kept}
-use Rattle.codec.specs.Field.{Field, field}
+use Rattle.codec.specs.Field.{Field, field, Reading}
 use Rattle.codec.specs.Number.{number_bytes, number_at}
 use Rattle.codec.specs.VectorField.{vector_bytes, vector_at}
 use Rattle.codec.specs.RowList.{RowList, row_list_bytes, row_list_at}
-use Rattle.codec.specs.Kind.{Family, tables, gates, witnesses, jobs, Head, head, head_kind, every_kind, head_among, kind_at}
+use Rattle.codec.specs.Kind.{Family, Tables, Gates, Witnesses, Jobs, Head, head, head_kind, every_kind, head_among, kind_at}
 use Rattle.codec.specs.TableField.{table_bytes, table_at}
 use Rattle.codec.proofs.FieldLaws.{onward_answered, and_then_answered, checked_onward, checked_answered}
 use Rattle.codec.proofs.StandsLaws.{Stands, stands_nil, both_stand, stands_whole, AllBytes}
@@ -33,7 +36,8 @@ use Rattle.codec.proofs.VectorFieldLaws.{vector_written}
 use Rattle.codec.proofs.RowListWritten.{rows_written, strict_kept}
 use Rattle.codec.proofs.KindLaws.{KindRead, kind_written}
 use Rattle.codec.proofs.TableFieldLaws.{table_written}
-use Rattle.records.specs.Record.{Record, of_table, of_gate, of_witness, of_job, family, table_in, head_in, vector_gate, body_bytes, record_bytes, gate_at, witness_at, open_job, unsound_job, job_at, rest_at, body_at, record_at, single_at, read_record}
+use Rattle.records.specs.declared.record.Record.{Record}
+use Rattle.records.specs.Record.{family, table_in, head_in, vector_gate, body_bytes, record_bytes, gate_at, witness_at, open_job, unsound_job, job_at, rest_at, body_at, record_at, single_at, read_record}
 use Rattle.writers.specs.Calls.{uncared_row, too_short, record_rules, write_record}
 use Rattle.bodies.proofs.RecordParts.{rest_bytes, kind_and_body, body_parts, fit_from}
 use Rattle.writers.proofs.KeptLaws.{Plain}
@@ -54,18 +58,18 @@ module _ (t : Table) (s : List ℕ) (bytes : AllBytes s) (taken : NoneBroken (ta
   whole_kept : is_whole t ≡ true → {others : List Rule} → NoneBroken others → NoneBroken (table_rules t (uncared_row t ∷ others))
   whole_kept whole kept = all_kept t taken (also (ap not whole) kept)
 
-  table_rest : (at : ℕ) (b : Field Record) → answered (field (of_table t) at) ≡ answered b → RestRead tables t s at b
+  table_rest : (at : ℕ) (b : Field Record) → ◌≡◌ {A = Reading Record} (Ok (field (Record'.Table t) at)) (Ok b) → RestRead Tables t s at b
   table_rest at b e =
-      let same : field (of_table t) at ≡ b = cc in
-      subst (RestRead tables t s at) same (record { same_family = refl; same_table = refl; stands = stands_nil s at; next = omega arith; rules = λ others kept. all_kept t taken kept })
+      let same : field (Record'.Table t) at ≡ b = cc in
+      subst (RestRead Tables t s at) same (record { same_family = refl; same_table = refl; stands = stands_nil s at; next = omega arith; rules = λ others kept. all_kept t taken kept })
 
-  gate_rest : is_whole t ≡ true → (at : ℕ) (b : Field Record) → gate_at t s at ≡ answered b → RestRead gates t s at b
+  gate_rest : is_whole t ≡ true → (at : ℕ) (b : Field Record) → gate_at t s at ≡ Ok b → RestRead Gates t s at b
   gate_rest whole at b e =
       let parts = onward_answered (vector_at true t.n s at) _ b e in
       let f = parts.0 in
       let read = vector_written true t.n s at f (kept_inputs t taken) bytes parts.1 in
-      let same : field (of_gate t (vector_gate t.n f.value)) f.next ≡ b = cc in
-      subst (RestRead gates t s at) same (record {
+      let same : field (Record'.Gate t (vector_gate t.n f.value)) f.next ≡ b = cc in
+      subst (RestRead Gates t s at) same (record {
         same_family = refl;
         same_table = refl;
         stands = read.stands;
@@ -73,14 +77,14 @@ module _ (t : Table) (s : List ℕ) (bytes : AllBytes s) (taken : NoneBroken (ta
         rules = λ others kept. also (ap not (eq-eqb t.n t.n refl)) (whole_kept whole (also (ap not (read.ranged refl)) kept));
       })
 
-  witness_rest : is_whole t ≡ true → (at : ℕ) (b : Field Record) → witness_at t s at ≡ answered b → RestRead witnesses t s at b
+  witness_rest : is_whole t ≡ true → (at : ℕ) (b : Field Record) → witness_at t s at ≡ Ok b → RestRead Witnesses t s at b
   unfolding unfit
   witness_rest whole at b e =
       let parts = onward_answered (row_list_at true (rows t) s at) _ b e in
       let f = parts.0 in
       let read = rows_written true (rows t) s at f (rows_le (kept_inputs t taken)) bytes parts.1 (strict_kept (rows t) s at f parts.1) in
-      let same : field (of_witness t (record { counts = f.value.counts })) f.next ≡ b = cc in
-      subst (RestRead witnesses t s at) same (record {
+      let same : field (Record'.Witness t (record { counts = f.value.counts })) f.next ≡ b = cc in
+      subst (RestRead Witnesses t s at) same (record {
         same_family = refl;
         same_table = refl;
         stands = read.stands;
@@ -89,10 +93,10 @@ module _ (t : Table) (s : List ℕ) (bytes : AllBytes s) (taken : NoneBroken (ta
       })
 
   -- the fields of a job's record
-  job_fields : (at : ℕ) (k : Field ℕ) (v w : Field Vector) (list : Field RowList) → number_at s at ≡ answered k → vector_at false t.n s k.next ≡ answered v
-      → vector_at false t.n s v.next ≡ answered w → row_list_at false (rows t) s w.next ≡ answered list → list.value.kept ≡ true
+  job_fields : (at : ℕ) (k : Field ℕ) (v w : Field Vector) (list : Field RowList) → number_at s at ≡ Ok k → vector_at false t.n s k.next ≡ Ok v
+      → vector_at false t.n s v.next ≡ Ok w → row_list_at false (rows t) s w.next ≡ Ok list → list.value.kept ≡ true
       → is_sound (open_job t k.value v.value w.value list.value.counts) ≡ true
-      → RestRead jobs t s at (field (of_job (open_job t k.value v.value w.value list.value.counts)) list.next)
+      → RestRead Jobs t s at (field (Record'.Job (open_job t k.value v.value w.value list.value.counts)) list.next)
   job_fields at k v w list ek ev ew el kept sound =
       let few = kept_inputs t taken in
       let number = number_written s at k bytes ek in
@@ -110,17 +114,17 @@ module _ (t : Table) (s : List ℕ) (bytes : AllBytes s) (taken : NoneBroken (ta
         rules = λ others rest. job_all_kept (open_job t k.value v.value w.value list.value.counts) taken sound (also refl rest);
       }
 
-  job_tested : (at : ℕ) (b : Field Record) (k : Field ℕ) (v w : Field Vector) (list : Field RowList) → number_at s at ≡ answered k → vector_at false t.n s k.next ≡ answered v
-      → vector_at false t.n s v.next ≡ answered w → row_list_at false (rows t) s w.next ≡ answered list
-      → checked (unsound_job list.value (open_job t k.value v.value w.value list.value.counts) ∷ []) (answered (field (of_job (open_job t k.value v.value w.value list.value.counts)) list.next)) ≡ answered b
-      → RestRead jobs t s at b
+  job_tested : (at : ℕ) (b : Field Record) (k : Field ℕ) (v w : Field Vector) (list : Field RowList) → number_at s at ≡ Ok k → vector_at false t.n s k.next ≡ Ok v
+      → vector_at false t.n s v.next ≡ Ok w → row_list_at false (rows t) s w.next ≡ Ok list
+      → checked (unsound_job list.value (open_job t k.value v.value w.value list.value.counts) ∷ []) (Ok (field (Record'.Job (open_job t k.value v.value w.value list.value.counts)) list.next)) ≡ Ok b
+      → RestRead Jobs t s at b
   job_tested at b k v w list ek ev ew el e =
       let j = open_job t k.value v.value w.value list.value.counts in
-      let passed = checked_answered 9 (not (list.value.kept && is_sound j)) (field (of_job j) list.next) b e in
+      let passed = checked_answered Refusal'.Unsound (not (list.value.kept && is_sound j)) (field (Record'.Job j) list.next) b e in
       let fine = not-false (list.value.kept && is_sound j) passed.0 in
-      subst (RestRead jobs t s at) passed.1 (job_fields at k v w list ek ev ew el (and_left list.value.kept (is_sound j) fine) (and_right list.value.kept (is_sound j) fine))
+      subst (RestRead Jobs t s at) passed.1 (job_fields at k v w list ek ev ew el (and_left list.value.kept (is_sound j) fine) (and_right list.value.kept (is_sound j) fine))
 
-  job_rest : (at : ℕ) (b : Field Record) → job_at t s at ≡ answered b → RestRead jobs t s at b
+  job_rest : (at : ℕ) (b : Field Record) → job_at t s at ≡ Ok b → RestRead Jobs t s at b
   job_rest at b e =
       let (k, ek, e₁) = onward_answered (number_at s at) _ b e in
       let (v, ev, e₂) = onward_answered (vector_at false t.n s k.next) _ b e₁ in
@@ -129,13 +133,13 @@ module _ (t : Table) (s : List ℕ) (bytes : AllBytes s) (taken : NoneBroken (ta
       job_tested at b k v w list ek ev ew el e₄
 
   -- by the family: beside a gate and a witness every row is cared for
-  rest_written : (f : Family) → (f ≡ gates → is_whole t ≡ true) → (f ≡ witnesses → is_whole t ≡ true) → (at : ℕ) (b : Field Record) → rest_at f t s at ≡ answered b
+  rest_written : (f : Family) → (f ≡ Gates → is_whole t ≡ true) → (f ≡ Witnesses → is_whole t ≡ true) → (at : ℕ) (b : Field Record) → rest_at f t s at ≡ Ok b
       → RestRead f t s at b
   unfolding rest_at
-  rest_written tables g w = table_rest
-  rest_written gates g w = gate_rest (g refl)
-  rest_written witnesses g w = witness_rest (w refl)
-  rest_written jobs g w = job_rest
+  rest_written Tables g w = table_rest
+  rest_written Gates g w = gate_rest (g refl)
+  rest_written Witnesses g w = witness_rest (w refl)
+  rest_written Jobs g w = job_rest
 
 -- what reading a body says: the record's kind byte says the same, its body stands there, and it keeps a writer's rules
 pub record BodyRead (h : Head) (s : List ℕ) (at : ℕ) (b : Field Record) : Type 0 where
@@ -145,7 +149,7 @@ pub record BodyRead (h : Head) (s : List ℕ) (at : ℕ) (b : Field Record) : Ty
   pub rules : (others : List Rule) → NoneBroken others → NoneBroken (record_rules b.value others)
 
 -- bytes that are read as a body, by what a kind byte says, are the record's own
-pub body_written : (s : List ℕ) → AllBytes s → (at : ℕ) (b : Field Record) (h : Head) → Plain h → body_at h s at ≡ answered b → BodyRead h s at b
+pub body_written : (s : List ℕ) → AllBytes s → (at : ℕ) (b : Field Record) (h : Head) → Plain h → body_at h s at ≡ Ok b → BodyRead h s at b
 unfolding body_at
 body_written s bytes at b h plain e =
     let (t, et, er) = onward_answered (table_at h.cares s at) (λ u p. rest_at h.family u s p) b e in
@@ -173,12 +177,12 @@ Each P [] = Unit {0}
 Each P (h ∷ hs) = P h × Each P hs
 
 -- so one that a byte is read as does
-each_read : (P : Head → Type 0) (takes : List Head) (kind : ℕ) (h : Head) → Each P takes → head_among takes kind ≡ answered h → P h
+each_read : (P : Head → Type 0) (takes : List Head) (kind : ℕ) (h : Head) → Each P takes → head_among takes kind ≡ Ok h → P h
 unfolding head_among Each
 each_read P [] kind h all e = let z : ◌≡◌ {A = ℕ} 0 1 = cc in absurd (omega arith)
 each_read P (g ∷ gs) kind h (first, all) e = by (eqb kind (head_kind g)) e (each_read P gs kind h all)
   where
-    by : (b : Bool) → cond b (answered g) (head_among gs kind) ≡ answered h → (head_among gs kind ≡ answered h → P h) → P h
+    by : (b : Bool) → cond b (Ok g) (head_among gs kind) ≡ Ok h → (head_among gs kind ≡ Ok h → P h) → P h
     by true q later = let same : g ≡ h = cc in subst P same first
     by false q later = later q
 
@@ -186,21 +190,21 @@ each_read P (g ∷ gs) kind h (first, all) e = by (eqb kind (head_kind g)) e (ea
 without : (f : Family) → Plain (head f false)
 without f = record { gate = λ e. refl; witness = λ e. refl }
 
-with_tables : Plain (head tables true)
+with_tables : Plain (head Tables true)
 with_tables = record { gate = λ e. cc; witness = λ e. cc }
 
-with_jobs : Plain (head jobs true)
+with_jobs : Plain (head Jobs true)
 with_jobs = record { gate = λ e. cc; witness = λ e. cc }
 
 every_plain : Each Plain every_kind
 unfolding Each
-every_plain = (without tables, (without gates, (without witnesses, (without jobs, (with_tables, (with_jobs, tt))))))
+every_plain = (without Tables, (without Gates, (without Witnesses, (without Jobs, (with_tables, (with_jobs, tt))))))
 
-kind_plain : (s : List ℕ) (at : ℕ) (f : Field Head) → kind_at every_kind s at ≡ answered f → Plain f.value
+kind_plain : (s : List ℕ) (at : ℕ) (f : Field Head) → kind_at every_kind s at ≡ Ok f → Plain f.value
 kind_plain s at f e =
     let said = head_among every_kind (get_or s at 0) in
-    let (inside, after) = checked_onward 1 (ltb (length s) (at + 1)) (and_then said (λ g. answered (field g (at + 1)))) f e in
-    let (h, is, same) = and_then_answered said (λ g. answered (field g (at + 1))) f after in
+    let (inside, after) = checked_onward Refusal'.EndsEarly (ltb (length s) (at + 1)) (and_then said (λ g. Ok (field g (at + 1)))) f e in
+    let (h, is, same) = and_then_answered said (λ g. Ok (field g (at + 1))) f after in
     let read : field h (at + 1) ≡ f = cc in
     rw (← read) (each_read Plain every_kind (get_or s at 0) h every_plain is)
 
@@ -217,16 +221,16 @@ record_written s x k b kind body ends e =
     stands_whole s (first ++ last) both.0 (omega (arith, both.1, ltb-false b.next (length s) ends)) ∙ same ∙ ap record_bytes e
 
 -- writing what was read gives the same bytes
-pub write_back : (s : List ℕ) → AllBytes s → (x : Record) → read_record s ≡ answered x → (room : ℕ) → length s ≤ room → write_record x room ≡ answered s
+pub write_back : (s : List ℕ) → AllBytes s → (x : Record) → read_record s ≡ Ok x → (room : ℕ) → length s ≤ room → write_record x room ≡ Ok s
 unfolding record_at single_at
 write_back s bytes x e room h =
     let (b, eb, e₁) = onward_answered (record_at every_kind s 0) _ x e in
     let (k, ek, e₂) = onward_answered (kind_at every_kind s 0) (λ h p. body_at h s p) b eb in
-    let ended = checked_answered 6 (ltb b.next (length s)) b.value x e₁ in
+    let ended = checked_answered Refusal'.BytesLeft (ltb b.next (length s)) b.value x e₁ in
     let kind = kind_written every_kind s 0 k ek in
     let body = body_written s bytes k.next b k.value (kind_plain s 0 k ek) e₂ in
     let same = record_written s x k b kind body ended.0 ended.1 in
     let room-left : ltb room (length (record_bytes x)) ≡ false = le-ltb room (length (record_bytes x)) (omega (arith, ap length same)) in
     let kept : NoneBroken (record_rules x (too_short room (record_bytes x) ∷ [])) =
     subst (λ (y : Record). NoneBroken (record_rules y (too_short room (record_bytes x) ∷ []))) ended.1 (body.rules (too_short room (record_bytes x) ∷ []) (also room-left none)) in
-    none_broken_answered (record_rules x (too_short room (record_bytes x) ∷ [])) (answered (record_bytes x)) kept ∙ ap answered (sym same)
+    none_broken_answered (record_rules x (too_short room (record_bytes x) ∷ [])) (Ok (record_bytes x)) kept ∙ ap Ok (sym same)

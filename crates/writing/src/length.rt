@@ -10,6 +10,7 @@ use types::table::Table;
 use types::vector::Vector;
 
 // Returns how many bytes a number takes.
+#[tactic(auto, unfolding(codec::specs::Number::number_bytes, codec::specs::Number::group_bytes))]
 pub fn number_length(x: u32) -> usize
     ensures { result ≡ length (number_bytes x) }
 {
@@ -37,10 +38,8 @@ pub fn vector_length(v: Vector, n: u8) -> usize
 {
     let a = v.a;
     let mut length: usize = 0;
-    let mut place: usize = 0;
-    while place < n as usize {
-        length = length + number_length(signed_code(a[place]));
-        place = place + 1;
+    for weight in &a[..n as usize] {
+        length += number_length(signed_code(*weight));
     }
     length + number_length(signed_code(v.b))
 }

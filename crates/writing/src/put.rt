@@ -39,10 +39,8 @@ pub fn put_vector(out: &mut [u8], at: usize, n: u8, v: Vector) -> usize
 {
     let a = v.a;
     let mut here = at;
-    let mut place: usize = 0;
-    while place < n as usize {
-        here = put_number(out, here, signed_code(a[place]));
-        place = place + 1;
+    for weight in &a[..n as usize] {
+        here = put_number(out, here, signed_code(*weight));
     }
     put_number(out, here, signed_code(v.b))
 }
@@ -61,12 +59,9 @@ fn put_bits(out: &mut [u8], at: usize, bits: &[u8], count: usize) -> usize
     requires { (count ≤ length bits.now) × Room out.old at (take count bits.now) }
     ensures { Put out.old at (take count bits.now) out.new result }
 {
-    let mut i: usize = 0;
-    while i < count {
-        out[at + i] = bits[i];
-        i = i + 1;
-    }
-    at + count
+    let next = at + count;
+    out[at..next].copy_from_slice(&bits[..count]);
+    next
 }
 
 // Writes the care bits of a table, where a row is not cared for.

@@ -1,11 +1,11 @@
 -- `claims::what_is_written_is_read`: the law of records, where the arrays have the lengths of the code's types. Assumes nothing.
+use Rattle.records.specs.declared.record.Record.TheVariants as Record'
 use mathlib.Core.Path.{◌≡◌}
 use lib.ListN.{length, get_or}
 use mir.Syntax.{w8}
 use mir.Val.{Fits}
 use Rattle.codec.proofs.TableFieldLaws.{Held}
 use borrow.Author.Rules.{rules}
-use Rattle.records.specs.Record.{of_table, of_gate, of_witness, of_job}
 use Rattle.writers.proofs.ReadBack.{read_back}
 use Rattle.claims.proofs.what_is_written_is_read.Goals as goal
 
@@ -22,8 +22,8 @@ returns c =
       long = search rules;
       cares = record { size = search rules; fits = λ i l. let byte : Fits w8 (get_or a.job.table.cares i 0) = search rules in byte.fits };
     } in (
-      read_back (of_table a.table) held,
-      read_back (of_gate a.table a.gate) (held, weights),
-      read_back (of_witness a.table a.witness) (held, counts),
-      read_back (of_job a.job) of_job_lem,
+      read_back (Record'.Table a.table) held,
+      read_back (Record'.Gate a.table a.gate) (held, weights),
+      read_back (Record'.Witness a.table a.witness) (held, counts),
+      read_back (Record'.Job a.job) of_job_lem,
     )

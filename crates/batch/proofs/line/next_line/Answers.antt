@@ -25,7 +25,7 @@ returns-then-progress-input c =
     let a = c.args in
     let call = c.record_or_refusal in
     let case = at_record a.input.now a.progress c.in-Records.is c.if-progress-input.true in
-    let line = made a.input.now a.progress a.out.now c.requires.0 c.requires.1 _ _ call.result case call.ensures.made call.ensures.length_le_line_room in
+    let line = made a.input.now a.progress a.out.now c.requires.0 c.requires.1 _ _ call.result case call.ensures.made call.ensures.fits in
     record { made = line.0; bounded = line.1 }
 
 pub returns-else-progress-input : goal.returns-else-progress-input
@@ -33,7 +33,7 @@ returns-else-progress-input c =
     let a = c.args in
     let call = c.last in
     let case = at_end_lem a.input.now a.progress c.in-Records.is c.if-progress-input.false in
-    let line = made a.input.now a.progress a.out.now c.requires.0 c.requires.1 _ _ call.result case call.ensures.made call.ensures.length_le_line_room in
+    let line = made a.input.now a.progress a.out.now c.requires.0 c.requires.1 _ _ call.result case call.ensures.made call.ensures.fits in
     record { made = line.0; bounded = line.1 }
 
 pub returns-in-Last : goal.returns-in-Last
@@ -41,7 +41,7 @@ returns-in-Last c =
     let a = c.args in
     let call = c.last-in-Last in
     let case = at_last a.input.now a.progress c.in-Last.is in
-    let line = made a.input.now a.progress a.out.now c.requires.0 c.requires.1 _ _ call.result case call.ensures.made call.ensures.length_le_line_room in
+    let line = made a.input.now a.progress a.out.now c.requires.0 c.requires.1 _ _ call.result case call.ensures.made call.ensures.fits in
     record { made = line.0; bounded = line.1 }
 
 pub returns-in-Done : goal.returns-in-Done

@@ -9,7 +9,7 @@ use lib.Seq.{length-take-le}
 use Rattle.batch.proofs.LeftLaws.{advance_moves}
 use Rattle.batch.proofs.FillLaws.{Lined, lined_none, lined_length, lined_more, full_some, done_some}
 use Rattle.batch.proofs.lines.fill.Goals as goal
-use Rattle.batch.proofs.lines.fill.Goals.{After-next_line-line, At-loop-out, Start}
+use Rattle.batch.proofs.lines.fill.Goals.{After-next_line-line, At-loop-out}
 
 pub loop-out-init : goal.loop-out-init
 loop-out-init c = lined_none c.args.input.now c.args.progress c.args.out.now c.requires.1

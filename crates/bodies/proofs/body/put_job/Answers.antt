@@ -1,4 +1,5 @@
 -- `bodies::body::put_job` meets its contract: the table, K, v and s, and the row list in the rest of the buffer. Assumes nothing.
+use Rattle.records.specs.declared.record.Record.TheVariants as Record'
 use mathlib.Core.Path.{ap}
 use mathlib.Core.List.{List, ◌++◌}
 use Prim.Native.Nat.{ℕ}
@@ -12,12 +13,12 @@ use Rattle.codec.specs.TableField.{table_bytes}
 use Rattle.codec.specs.Written.{Room, Put}
 use Rattle.codec.proofs.WrittenLaws.{written_room, written_rest, written_next, written_part}
 use Rattle.refusal.proofs.TableChecked.{kept_inputs, kept_cares}
-use Rattle.records.specs.Record.{of_job, numbers_bytes, body_bytes}
+use Rattle.records.specs.Record.{numbers_bytes, body_bytes}
 use Rattle.bodies.proofs.RecordParts.{savable}
 use Rattle.bodies.proofs.BodyLaws.{fields, job_parts}
 use Rattle.bodies.proofs.body.put_job.Goals as goal
 
-module _ (job : Job) (old : List ℕ) (from : ℕ) (given : Room old from (body_bytes (of_job job))) where
+module _ (job : Job) (old : List ℕ) (from : ℕ) (given : Room old from (body_bytes (Record'.Job job))) where
   abbrev table : List ℕ
   table = table_bytes job.table
 
@@ -56,23 +57,6 @@ pub put_numbers-counts_at-requires : goal.put_numbers-counts_at-requires
 put_numbers-counts_at-requires c =
     (c.requires.0, numbers_room c.args.job c.args.out.now c.args.at c.requires.2 c.put_table-numbers_at.ensures)
 
-pub slice_bounds-put_rows-count : goal.slice_bounds-put_rows-count
-slice_bounds-put_rows-count c =
-    let job = c.args.job in
-    let old = c.args.out.now in
-    let from = c.args.at in
-    omega (arith, room_rows job old from c.requires.2 (numbers_put job old from c.requires.2 c.put_table-numbers_at.ensures c.put_numbers-counts_at.ensures))
-
-pub slice_bounds-put_rows-start : goal.slice_bounds-put_rows-start
-slice_bounds-put_rows-start c =
-    let job = c.args.job in
-    let old = c.args.out.now in
-    let from = c.args.at in
-    omega (arith, room_rows job old from c.requires.2 (numbers_put job old from c.requires.2 c.put_table-numbers_at.ensures c.put_numbers-counts_at.ensures))
-
-pub row_count-requires : goal.row_count-requires
-row_count-requires c = kept_inputs c.args.job.table c.requires.0
-
 pub put_rows-length-requires : goal.put_rows-length-requires
 put_rows-length-requires c =
     let job = c.args.job in
@@ -98,6 +82,3 @@ returns c =
     let here = numbers_put job old from c.requires.2 c.put_table-numbers_at.ensures c.put_numbers-counts_at.ensures in
     rw (job_parts job)
     (written_part old from (table_bytes job.table ++ numbers_bytes job) (row_list_bytes job.state.counts) (room job old from c.requires.2) here c.put_rows-length.ensures)
-
-pub overflow_add-result : goal.overflow_add-result
-overflow_add-result c = omega (arith, (returns c).0, c.requires.2)

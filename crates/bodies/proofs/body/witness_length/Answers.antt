@@ -1,17 +1,11 @@
 -- `bodies::body::witness_length` meets its contract: the lengths of the table and of the row list. Assumes nothing.
+use Rattle.records.specs.declared.record.Record.TheVariants as Record'
 use native.Mathlib.Omega.{arith}
 use Rattle.table.proofs.TableLaws.{rows_le}
-use Rattle.refusal.proofs.TableChecked.{kept_inputs, kept_cares}
-use Rattle.records.specs.Record.{of_witness}
+use Rattle.refusal.proofs.TableChecked.{kept_inputs}
 use Rattle.bodies.proofs.RecordParts.{witness_fits}
 use Rattle.bodies.proofs.BodyLaws.{body_count, body_most}
 use Rattle.bodies.proofs.body.witness_length.Goals as goal
-
-pub table_length-requires : goal.table_length-requires
-table_length-requires c = (kept_inputs c.args.table c.requires, kept_cares c.args.table c.requires)
-
-pub row_count-requires : goal.row_count-requires
-row_count-requires c = kept_inputs c.args.table c.requires
 
 pub rows_length-requires : goal.rows_length-requires
 rows_length-requires c =
@@ -20,8 +14,8 @@ rows_length-requires c =
 
 pub overflow_add-result : goal.overflow_add-result
 overflow_add-result c =
-    let x = of_witness c.args.table c.args.witness in
+    let x = Record'.Witness c.args.table c.args.witness in
     omega (arith, body_count x, body_most x (kept_inputs c.args.table c.requires))
 
 pub returns : goal.returns
-returns c = omega (arith, body_count (of_witness c.args.table c.args.witness))
+returns c = omega (arith, body_count (Record'.Witness c.args.table c.args.witness))

@@ -1,9 +1,9 @@
--- `lanes::correction::add_high` meets its contract. The loop's invariant: the places below 32 are as they came, and of the others those of
--- the rows below `row` have their sums. The measure is the number of rows left. Assumes nothing.
+-- `correction::add_high` meets its contract. The loop's invariant: the places below 32 are as they came, and of the others those of the rows
+-- below `row` have their sums. Assumes nothing.
 use mathlib.Core.Path.{◌≡◌}
 use mathlib.Core.List.{List}
-use Prim.Native.Nat.{ℕ, ◌+◌, ◌-◌, ◌≤◌}
-use lib.ListN.{length, get_or, take, drop}
+use Prim.Native.Nat.{ℕ, ◌+◌}
+use lib.ListN.{get_or, take, drop}
 use lib.IntN.{ℤ, pos, ◌+ℤ◌, ◌-ℤ◌}
 use Rattle.numbers.proofs.TabulateLaws.{filled}
 use Rattle.correction.proofs.correction.add_high.Given as goal
@@ -14,10 +14,5 @@ added sums steps sign q = get_or sums (32 + q) (pos 0) +ℤ get_or steps q (pos 
 
 abbrev pub invariant-loop-row : goal.invariant-loop-row
 invariant-loop-row l =
-    (l.row ≤ 8)
-    × (length l.sums ≡ length l.initial.sums)
-    × (take 32 l.sums ≡ take 32 l.initial.sums)
+    (take 32 l.sums ≡ take 32 l.initial.sums)
     × (drop 32 l.sums ≡ filled (added l.initial.sums l.steps l.sign) (drop 32 l.initial.sums) l.row)
-
-abbrev pub decreases-loop-row : goal.decreases-loop-row
-decreases-loop-row l = 8 - l.row

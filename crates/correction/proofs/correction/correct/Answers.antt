@@ -1,4 +1,4 @@
--- `lanes::correction::correct` meets its contract. The steps of the row's low inputs are added to the distances, those of its higher inputs
+-- `correction::correct` meets its contract. The steps of the row's low inputs are added to the distances, those of its higher inputs
 -- to the other sums. No sum wraps, since the sums are narrow and a step is at most 6 in size. Assumes nothing.
 use mathlib.Core.Path.{◌≡◌, ◌∙◌, ap}
 use mathlib.Core.Bool.{Bool, true, false}
@@ -10,7 +10,6 @@ use lib.ListN.{get_or, take, drop}
 use lib.IntN.{ℤ, pos, nat_abs, ◌+ℤ◌, ◌-ℤ◌, ◌*ℤ◌}
 use mir.Syntax.{w16}
 use mir.Val.{to_z, of_z, SFits}
-use borrow.Author.Rules.{rules}
 use Rattle.numbers.specs.Tabulate.{tabulate}
 use Rattle.function.specs.Vector.{sign}
 use Rattle.lanes.specs.Codes.{row_code}
@@ -51,13 +50,10 @@ made_is true r = let odd : row_code true r % 2 ≡ 1 = omega arith in ap made od
 made_is false r = let even : row_code false r % 2 ≡ 0 = omega arith in ap made even
 
 -- ---- the function
-pub add_low-requires : goal.add_low-requires
-add_low-requires c =
+pub add_low-requires-clause-sizes : goal.add_low-requires-clause-sizes
+add_low-requires-clause-sizes c q h =
     let a = c.args in
-    record {
-      sums_len = search rules;
-      sizes = λ q h. omega (arith, c.requires.2 q 0 h (omega arith), part_size a.steps.now (a.code % 64 * 32) 32 q c.requires.1 (omega arith) h);
-    }
+    omega (arith, c.requires.2 q 0 h (omega arith), part_size a.steps.now (a.code % 64 * 32) 32 q c.requires.1 (omega arith) h)
 
 -- the sums after the first addition have the higher inputs' sums as they came
 kept : (half sums : List ℤ) (f : ℕ → ℤ) (q : ℕ) → half ≡ tabulate 32 f ++ drop 32 sums
@@ -70,21 +66,17 @@ overflow_mul-code c = double_fits _ (mod-lt c.args.code (omega arith))
 pub overflow_sub-code : goal.overflow_sub-code
 overflow_sub-code c = less_fits _ (mod-lt c.args.code (omega arith))
 
-pub add_high-requires : goal.add_high-requires
-add_high-requires c =
+pub add_high-requires-clause-sizes : goal.add_high-requires-clause-sizes
+add_high-requires-clause-sizes c q h =
     let a = c.args in
     let from = (a.code / 64 * 2 + a.code % 2) * 32 in
-    record {
-      sums_len = search rules;
-      sizes = λ q h.
-          omega (
-            arith,
-            c.requires.2 0 q (omega arith) h,
-            kept c.add_low.new.sums a.sums.now (λ k. get_or a.sums.now k (pos 0) +ℤ get_or (part (a.code % 64 * 32) 32 a.steps.now) k (pos 0)) q c.add_low.ensures,
-            part_size a.steps.now from 8 q c.requires.1 (omega arith) h,
-            made_size (a.code % 2) (mod-lt a.code (omega arith)),
-          );
-    }
+    omega (
+      arith,
+      c.requires.2 0 q (omega arith) h,
+      kept c.add_low.new.sums a.sums.now (λ k. get_or a.sums.now k (pos 0) +ℤ get_or (part (a.code % 64 * 32) 32 a.steps.now) k (pos 0)) q c.add_low.ensures,
+      part_size a.steps.now from 8 q c.requires.1 (omega arith) h,
+      made_size (a.code % 2) (mod-lt a.code (omega arith)),
+    )
 
 pub returns : goal.returns
 returns c v y row eight bound is sums-is =

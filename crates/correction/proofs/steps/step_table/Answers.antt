@@ -1,4 +1,4 @@
--- `lanes::steps::step_table` meets its contract: a test that antt computes compares each of the 2,048 entries with its step.
+-- `steps::step_table` meets its contract: a test that antt computes compares each of the 2,048 entries with its step.
 -- Assumes nothing.
 use mathlib.Core.Path.{refl}
 use mathlib.Core.List.{List}

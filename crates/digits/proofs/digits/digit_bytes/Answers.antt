@@ -1,5 +1,4 @@
--- `digits::digit_bytes` meets its contract. The loop's invariant: the bytes of the rows below `at` are stored into zeros. The measure is what is left of
--- the table's bytes. Assumes nothing.
+-- `digits::digit_bytes` meets its contract, by the bytes stored. Assumes nothing.
 use mathlib.Core.Path.{◌≡◌, ◌∙◌}
 use native.Mathlib.Omega.{arith}
 use lib.ListN.{replicate}
@@ -10,15 +9,13 @@ use Rattle.digits.specs.Digits.{digit_row}
 use Rattle.digits.proofs.digits.digit_bytes.Goals as goal
 
 pub loop-at-init : goal.loop-at-init
-loop-at-init c = (omega arith, filled_none _ _)
-
-pub bounds-bytes-at : goal.bounds-bytes-at
-bounds-bytes-at c = omega (arith, c.byte_count-count.ensures, bytes_le c.requires.0)
+loop-at-init c = filled_none _ _
 
 pub loop-at-preserved : goal.loop-at-preserved
-loop-at-preserved c = (omega arith, filled_more _ (replicate 32 0) c.loop-at.at (bounds-bytes-at c) c.loop-at.invariant.1 c.digit_byte.ensures)
+loop-at-preserved c =
+    filled_more _ (replicate 32 0) c.loop-at.at (omega (arith, c.byte_count-count.ensures, bytes_le c.requires.0)) c.loop-at.invariant c.digit_byte.ensures
 
 pub returns : goal.returns
 returns c =
     let last : c.loop-at.at ≡ c.byte_count-count.result = omega arith in
-    rows_made c.args.n (digit_row c.args.digits.now) c.requires.0 (last ∙ c.byte_count-count.ensures) c.loop-at.invariant.1
+    rows_made c.args.n (digit_row c.args.digits.now) c.requires.0 (last ∙ c.byte_count-count.ensures) c.loop-at.invariant

@@ -1,5 +1,4 @@
--- `gate::gate_realises` meets its contract. The loop's invariant: the gate agrees with the table on each row below `row`. The measure is
--- the number of rows left. Assumes nothing.
+-- `gate::gate_realises` meets its contract. The loop's invariant: the gate agrees with the table on each row below `row`. Assumes nothing.
 use mathlib.Core.Path.{◌≡◌, sym, ◌∙◌}
 use mathlib.Core.Bool.{true, false}
 use Prim.Native.Nat.{ℕ, ◌<◌}
@@ -11,7 +10,6 @@ use Rattle.types.specs.declared.gate.Gate.{Gate}
 use Rattle.table.specs.Table.{rows, function_of}
 use Rattle.function.specs.Gate.{realises}
 use Rattle.table.proofs.OnTables.{table_realises_test}
-use Rattle.table.proofs.TableLaws.{rows_le}
 use Rattle.gates.proofs.gate.gate_realises.Goals as goal
 use Rattle.gates.proofs.gate.gate_realises.Invariants.{agrees}
 
@@ -24,10 +22,7 @@ realises_all : (t : Table) (g : Gate) → all_below (rows t) (agrees t g) ≡ tr
 realises_all t g e = table_realises_test t g.weights g.threshold ∙ e
 
 pub loop-row-init : goal.loop-row-init
-loop-row-init c = (omega arith, all_below_zero _)
-
-pub agrees_at-requires : goal.agrees_at-requires
-agrees_at-requires c = omega (arith, c.row_count-rows.ensures, rows_le c.requires)
+loop-row-init c = all_below_zero _
 
 pub returns-then-not-agrees_at : goal.returns-then-not-agrees_at
 returns-then-not-agrees_at c =
@@ -36,10 +31,10 @@ returns-then-not-agrees_at c =
     sym (realises_fails a.table a.gate _ below (sym c.agrees_at.ensures ∙ c.if-not-agrees_at.true))
 
 pub loop-row-preserved : goal.loop-row-preserved
-loop-row-preserved c = (omega arith, all_below_more c.loop-row.row _ c.loop-row.invariant.1 (sym c.agrees_at.ensures ∙ c.if-not-agrees_at.false))
+loop-row-preserved c = all_below_more c.loop-row.row _ c.loop-row.invariant (sym c.agrees_at.ensures ∙ c.if-not-agrees_at.false)
 
 pub returns : goal.returns
 returns c =
     let a = c.args in
     let end : c.loop-row.row ≡ rows a.table = omega (arith, c.row_count-rows.ensures) in
-    sym (realises_all a.table a.gate (rw end at c.loop-row.invariant.1))
+    sym (realises_all a.table a.gate (rw end at c.loop-row.invariant))

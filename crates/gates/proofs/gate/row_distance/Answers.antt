@@ -37,7 +37,7 @@ module _ (weights : List ℤ) (row place : ℕ) (z : ℤ) (h : place < length we
   sum_false e (is, size) = (rw (add-one, weighted_sum_suc place weights (level 2 row), e, zero-*ℤ, +ℤ_idr) is, omega arith)
 
 pub loop-place-init : goal.loop-place-init
-loop-place-init c = (omega arith, (sym (weighted_sum_nil _), omega arith))
+loop-place-init c = (sym (weighted_sum_nil _), omega arith)
 
 -- the sum with a weight, read back from the bits to which the code writes it
 sum_back : (z x : ℤ) → SFits w32 x → up (z +ℤ x) + dn (z +ℤ x) < 2 ^ 63
@@ -53,11 +53,11 @@ loop-place-preserved c =
     elim c.if-row-place-eq1.branch [
       | then-row-place-eq1 w ↦
           let f : SFits w32 (get_or ws place (pos 0)) = search rules in
-          let s = sum_true ws c.args.row place z (omega arith) w.if-row-place-eq1.true f c.loop-place.invariant.1 in
-          (omega arith, rw (w.sum-is, sum_back z (get_or ws place (pos 0)) f (omega (arith, s.1))) s)
+          let s = sum_true ws c.args.row place z (omega arith) w.if-row-place-eq1.true f c.loop-place.invariant in
+          rw (w.sum-is, w.from-sum.ensures, sum_back z (get_or ws place (pos 0)) f (omega (arith, s.1))) s
       | else-row-place-eq1 w ↦
           let none : level 2 c.args.row place ≡ 0 = omega (arith, level_lt c.args.row place, w.if-row-place-eq1.false) in
-          (omega arith, rw w.sum-is (sum_false ws c.args.row place z (omega arith) none c.loop-place.invariant.1))
+          rw w.sum-is (sum_false ws c.args.row place z (omega arith) none c.loop-place.invariant)
     ]
 
 -- a sum less T, read back likewise
@@ -72,5 +72,5 @@ returns c =
     let z = to_z w64 c.loop-place.sum-bits in
     let count : length ws ≡ 8 = search rules in
     let all : take c.loop-place.place ws ≡ ws = take_all c.loop-place.place ws (omega arith) in
-    let sum : z ≡ weighted_sum ws (level 2 c.args.row) = rw all at c.loop-place.invariant.1.0 in
-    less_back z c.args.threshold c.ranges.threshold (omega (arith, c.loop-place.invariant.1.1)) ∙ ap (λ (s : ℤ). s -ℤ c.args.threshold) sum
+    let sum : z ≡ weighted_sum ws (level 2 c.args.row) = rw all at c.loop-place.invariant.0 in
+    rw c.from.ensures (less_back z c.args.threshold c.ranges.threshold (omega (arith, c.loop-place.invariant.1)) ∙ ap (λ (s : ℤ). s -ℤ c.args.threshold) sum)

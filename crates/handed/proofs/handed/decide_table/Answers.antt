@@ -1,17 +1,14 @@
 -- `handed::decide_table` meets its contract: the job of the table after one carry-on keeps its rules, and what it has come to is written.
 -- Assumes nothing.
-use mathlib.Core.Path.{◌≡◌, sym, ◌∙◌, ap, subst}
+use mathlib.Core.Path.{◌≡◌, sym, ap, subst}
 use mathlib.Core.List.{[]}
-use lib.ListN.{length}
-use mir.Syntax.{w64}
-use Rattle.numbers.proofs.Int.{back}
 use Rattle.refusal.specs.Refusal.{NoneBroken}
 use Rattle.job.specs.declared.job.Job.{Job}
-use Rattle.job.specs.Machine.{run, fresh, decided}
 use Rattle.job.specs.Calls.{job_rules}
+use lib.ListN.{length}
+use Rattle.job.specs.Machine.{run, fresh, decided}
 use Rattle.outcome.specs.Outcome.{job_of}
 use Rattle.refusal.proofs.TableChecked.{kept_inputs}
-use Rattle.handed.proofs.HandedLaws.{handed_as}
 use Rattle.handed.proofs.DecidedLaws.{decided_kept, decided_handed}
 use Rattle.handed.proofs.handed.decide_table.Goals as goal
 use Rattle.handed.proofs.handed.decide_table.Goals.{After-decided_alone-state}
@@ -25,11 +22,9 @@ pub decided_alone-state-requires : goal.decided_alone-state-requires
 decided_alone-state-requires c = kept_inputs c.args.table c.requires
 
 pub put_outcome-requires : goal.put_outcome-requires
-put_outcome-requires c = subst (λ (j : Job). NoneBroken (job_rules j [])) (sym (job_is (goal.at.put_outcome-requires c).After-decided_alone-state)) (decided_kept c.args.table c.requires)
+put_outcome-requires c =
+    subst (λ (j : Job). NoneBroken (job_rules j [])) (sym (job_is (goal.at.put_outcome-requires c).After-decided_alone-state)) (decided_kept c.args.table c.requires)
 
 pub returns : goal.returns
 returns c =
-    let a = c.args in
-    let ((r, b), made) = c.put_outcome.ensures in
-    handed_as a.out.now a.made.now (decided_handed a.table (length a.out.now) (job_is (goal.at.returns c).After-decided_alone-state))
-    ((back w64 c.put_outcome.type_inv ∙ r, b), made)
+    rw (← decided_handed c.args.table (length c.args.out.now) (job_is (goal.at.returns c).After-decided_alone-state)) c.put_outcome.ensures

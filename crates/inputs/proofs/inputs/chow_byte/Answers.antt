@@ -10,9 +10,19 @@ use mir.Syntax.{w32}
 use borrow.Author.Rules.{rules}
 use Rattle.numbers.proofs.Int.{back}
 use Rattle.inputs.specs.Inputs.{word, chow_bytes}
-use Rattle.inputs.proofs.ByteLaws.{word_small, chow_low, chow_high}
+use Rattle.inputs.proofs.ByteLaws.{chow_low, chow_high}
 use Rattle.inputs.proofs.inputs.chow_byte.Goals as goal
 use Rattle.inputs.proofs.inputs.chow_byte.Goals.{After-word_of-code}
+
+low : (q : List ℤ) (at code : ℕ) → code ≡ word (get_or q (at / 2) (pos 0)) → at % 2 ≡ 0 → code % 256 ≡ get_or (chow_bytes q) at 0
+low q at code e h =
+    let there : at / 2 + at / 2 ≡ at = omega arith in
+    ap (λ (x : ℕ). x % 256) e ∙ sym (chow_low q (at / 2)) ∙ ap (λ (i : ℕ). get_or (chow_bytes q) i 0) there
+
+high : (q : List ℤ) (at code : ℕ) → code ≡ word (get_or q (at / 2) (pos 0)) → at % 2 ≢ 0 → code / 256 ≡ get_or (chow_bytes q) at 0
+high q at code e h =
+    let there : suc (at / 2 + at / 2) ≡ at = omega arith in
+    ap (λ (x : ℕ). x / 256) e ∙ sym (chow_high q (at / 2)) ∙ ap (λ (i : ℕ). get_or (chow_bytes q) i 0) there
 
 -- the number of the place, which is read back from its bits
 word_is : (c : After-word_of-code) → let a = c.args in c.word_of-code.result ≡ word (get_or a.q (a.at / 2) (pos 0))
@@ -20,27 +30,8 @@ word_is c =
     let a = c.args in
     c.word_of-code.ensures ∙ ap word (back w32 {a = get_or a.q (a.at / 2) (pos 0)} (search rules))
 
-pub overflow_cast-result-else-at-eq0 : goal.overflow_cast-result-else-at-eq0
-overflow_cast-result-else-at-eq0 c =
-    let a = c.args in
-    record { fits = omega (arith, word_is (goal.at.overflow_cast-result-else-at-eq0 c).After-word_of-code, word_small (get_or a.q (a.at / 2) (pos 0))) }
-
-low : (q : List ℤ) (at : ℕ) → at % 2 ≡ 0 → word (get_or q (at / 2) (pos 0)) % 256 ≡ get_or (chow_bytes q) at 0
-low q at h =
-    let there : at / 2 + at / 2 ≡ at = omega arith in
-    sym (chow_low q (at / 2)) ∙ ap (λ (i : ℕ). get_or (chow_bytes q) i 0) there
-
-high : (q : List ℤ) (at : ℕ) → at % 2 ≢ 0 → word (get_or q (at / 2) (pos 0)) / 256 ≡ get_or (chow_bytes q) at 0
-high q at h =
-    let there : suc (at / 2 + at / 2) ≡ at = omega arith in
-    sym (chow_high q (at / 2)) ∙ ap (λ (i : ℕ). get_or (chow_bytes q) i 0) there
-
 pub returns-then-at-eq0 : goal.returns-then-at-eq0
-returns-then-at-eq0 c =
-    let a = c.args in
-    ap (λ (x : ℕ). x % 256) (word_is (goal.at.returns-then-at-eq0 c).After-word_of-code) ∙ low a.q a.at c.if-at-eq0.true
+returns-then-at-eq0 c = low c.args.q c.args.at _ (word_is (goal.at.returns-then-at-eq0 c).After-word_of-code) c.if-at-eq0.true
 
 pub returns-else-at-eq0 : goal.returns-else-at-eq0
-returns-else-at-eq0 c =
-    let a = c.args in
-    ap (λ (x : ℕ). x / 256) (word_is (goal.at.returns-else-at-eq0 c).After-word_of-code) ∙ high a.q a.at c.if-at-eq0.false
+returns-else-at-eq0 c = high c.args.q c.args.at _ (word_is (goal.at.returns-else-at-eq0 c).After-word_of-code) c.if-at-eq0.false

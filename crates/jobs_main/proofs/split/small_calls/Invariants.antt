@@ -1,8 +1,6 @@
-use Rattle.std.proofs.Common.{◌≤◌, ◌*◌, ◌^◌, ◌-◌}
+-- each call so far has made at most 2^32 - 1 corrections
+use Rattle.std.proofs.Common.{◌≤◌, ◌*◌}
 use Rattle.jobs_main.proofs.split.small_calls.Given as goal
 
 abbrev pub invariant-loop-budget : goal.invariant-loop-budget
-invariant-loop-budget l = (l.budget ≤ 401) × (l.made ≤ 2 ^ 32 * l.budget)
-
-abbrev pub decreases-loop-budget : goal.decreases-loop-budget
-decreases-loop-budget l = 401 - l.budget
+invariant-loop-budget l = l.made ≤ 4294967295 * l.budget

@@ -49,28 +49,28 @@ module _ (v : Vector) (range : in_range weight_limit 8 v.a v.b ≡ true) where
 pub absolute-sum-requires : goal.absolute-sum-requires
 absolute-sum-requires c = rw (threshold_read c.args.v c.requires) (within c.args.v c.requires).threshold
 
-pub loop-place-init : goal.loop-place-init
-loop-place-init c =
-    (omega arith, omega (arith, sum_below_zero (size_at c.args.v.a), c.absolute-sum.ensures ∙ ap nat_abs (threshold_read c.args.v c.requires)))
+pub loop-weight-init : goal.loop-weight-init
+loop-weight-init c = omega (arith, sum_below_zero (size_at c.args.v.a), c.absolute-sum.ensures ∙ ap nat_abs (threshold_read c.args.v c.requires))
 
-pub absolute-sum-requires-in-loop-place : goal.absolute-sum-requires-in-loop-place
-absolute-sum-requires-in-loop-place c =
-    rw (weight_read c.args.v c.requires c.loop-place.place c.loop-place-test.true) (in_range_at (within c.args.v c.requires) c.loop-place.place c.loop-place-test.true)
+pub absolute-sum-requires-in-loop-weight : goal.absolute-sum-requires-in-loop-weight
+absolute-sum-requires-in-loop-weight c =
+    let at = c.loop-weight.weight-index in
+    rw (weight_read c.args.v c.requires at (omega arith)) (in_range_at (within c.args.v c.requires) at (omega arith))
 
 pub overflow_add-sum : goal.overflow_add-sum
 overflow_add-sum c =
-    let at = c.loop-place in
-    let next = next_sum c.args.v c.requires at.place at.sum c.absolute-sum-in-loop-place.result c.loop-place-test.true at.invariant.1 c.absolute-sum-in-loop-place.ensures in
-    record { fits = omega (arith, next, sum_le c.args.v c.requires (at.place + 1) (omega arith), (within c.args.v c.requires).threshold) }
+    let at = c.loop-weight in
+    let next = next_sum c.args.v c.requires at.weight-index at.sum c.absolute-sum-in-loop-weight.result (omega arith) at.invariant c.absolute-sum-in-loop-weight.ensures in
+    record { fits = omega (arith, next, sum_le c.args.v c.requires (at.weight-index + 1) (omega arith), (within c.args.v c.requires).threshold) }
 
-pub loop-place-preserved : goal.loop-place-preserved
-loop-place-preserved c =
-    let at = c.loop-place in
-    (omega arith, next_sum c.args.v c.requires at.place at.sum c.absolute-sum-in-loop-place.result c.loop-place-test.true at.invariant.1 c.absolute-sum-in-loop-place.ensures)
+pub loop-weight-preserved : goal.loop-weight-preserved
+loop-weight-preserved c =
+    let at = c.loop-weight in
+    next_sum c.args.v c.requires at.weight-index at.sum c.absolute-sum-in-loop-weight.result (omega arith) at.invariant c.absolute-sum-in-loop-weight.ensures
 
 pub returns : goal.returns
 unfolding magnitude
 returns c =
-    let last : c.loop-place.place ≡ 8 = omega arith in
-    let is : c.loop-place.sum ≡ magnitude c.args.v = rw last at c.loop-place.invariant.1 in
+    let last : c.loop-weight.weight-index ≡ 8 = omega arith in
+    let is : c.loop-weight.sum ≡ magnitude c.args.v = rw last at c.loop-weight.invariant in
     ap (λ (x : ℕ). leb x 9000) is

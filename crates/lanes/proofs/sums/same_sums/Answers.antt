@@ -2,9 +2,8 @@
 use mathlib.Core.Path.{◌≡◌, sym, ◌∙◌, ap}
 use mathlib.Core.Bool.{false}
 use mathlib.Core.List.{List}
-use Prim.Native.Nat.{ℕ, ◌-◌, ◌≤◌}
+use Prim.Native.Nat.{ℕ, ◌+◌, ◌<◌}
 use native.Mathlib.Omega.{arith}
-use lib.Pow.{pow_mono}
 use lib.ListN.{get_or}
 use lib.IntN.{ℤ, pos}
 use mir.Syntax.{w16}
@@ -15,8 +14,11 @@ use Rattle.function.specs.Vector.{same_vector}
 use Rattle.function.proofs.VectorLaws.{same_vector_correct}
 use Rattle.function.proofs.RangeLaws.{in_range_correct}
 use Rattle.lanes.specs.Sums.{vector_sums}
-use Rattle.lanes.specs.Blocks.{blocks_of}
 use Rattle.lanes.proofs.WeightLaws.{sums_same}
+use Rattle.std.proofs.lemmas.Bool.Decides.{same_from_decides}
+use Rattle.std.specs.Cmp.Rules.{signed_items}
+use lib.ListN.{take}
+use lib.Seq.{get_or-take}
 use Rattle.lanes.proofs.sums.same_sums.Goals as goal
 
 -- vectors of which a sum differs are not equal
@@ -30,26 +32,21 @@ apart at differ v s x-is y-is =
 pub returns-then-x-y : goal.returns-then-x-y
 returns-then-x-y c k v s long long-s range range-s = apart 31 c.if-x-y.true v s
 
--- there are at most eight blocks, so that a place of the loop is one of the 40
-blocks_le : (n : ℕ) → n ≤ 8 → blocks_of n ≤ 8
-blocks_le n h = pow_mono {i = n - 5} {j = 3} (omega arith)
-
-pub bounds-x-at : goal.bounds-x-at
-bounds-x-at c = omega (arith, c.block_count-count.ensures, blocks_le c.args.n c.requires)
-
-pub bounds-y-at : goal.bounds-y-at
-bounds-y-at c = omega (arith, c.block_count-count.ensures, blocks_le c.args.n c.requires)
-
-pub returns-then-x-at : goal.returns-then-x-at
-returns-then-x-at c k v s long long-s range range-s = apart c.loop-at.at c.if-x-at.true v s
-
+-- vectors whose first sums agree are equal, and the first sums of equal vectors agree
 pub returns : goal.returns
 returns c k v s long long-s range range-s x-is y-is =
     let n = c.args.n in
-    let agree = rw (x-is, y-is) at c.loop-at.invariant.1 in
-    sym
-    ((same_vector_correct v s).1
-    (sums_same v s k n long long-s
-    ((in_range_correct k n v.a v.b).0 range)
-    ((in_range_correct k n s.a s.b).0 range-s)
-    (λ i l. agree i (omega (arith, c.block_count-count.ensures)))))
+    let count = 32 + c.block_count-count.result in
+    let equal = same_vector_correct v s in
+    same_from_decides _ _
+    (rw (← c.eq.ensures) at (signed_items (take count c.args.x.now) (take count c.args.y.now))) (
+      λ same. ap (take count) (x-is ∙ ap vector_sums (equal.0 same) ∙ sym y-is),
+      λ agree.
+          equal.1
+          (sums_same v s k n long long-s
+          ((in_range_correct k n v.a v.b).0 range)
+          ((in_range_correct k n s.a s.b).0 range-s)
+          (λ i l.
+          let below : i < count = omega (arith, c.block_count-count.ensures) in
+          ap (λ (l : List ℤ). get_or l i (pos 0)) (sym x-is) ∙ sym (get_or-take count c.args.x.now i (pos 0) below) ∙ ap (λ (l : List ℤ). get_or l i (pos 0)) agree ∙ get_or-take count c.args.y.now i (pos 0) below ∙ ap (λ (l : List ℤ). get_or l i (pos 0)) y-is)),
+    )

@@ -2,7 +2,6 @@
 use mathlib.Core.Path.{◌≡◌, refl, sym, ◌∙◌, ap}
 use Prim.Native.Nat.{ℕ, ◌-◌, ◌^◌, ◌≤◌, ◌<◌}
 use native.Mathlib.Omega.{arith}
-use lib.Pow.{pow_mono}
 use lib.ListN.{length, get_or}
 use lib.IntN.{ℤ, pos, nat_abs, ◌-ℤ◌}
 use mir.Syntax.{w16, w32}
@@ -63,44 +62,36 @@ module _ (v : Vector) (pre : (length v.a ≡ 8) × (magnitude v ≤ 16000)) wher
     weight_read : to_z w16 (of_z w16 (to_z w32 (of_z w32 (get_or v.a place (pos 0))))) ≡ get_or v.a place (pos 0)
     weight_read = cast_read (get_or v.a place (pos 0)) small
 
-pub overflow_sub-first : goal.overflow_sub-first
-overflow_sub-first c = first_fits c.args.v c.requires
+pub overflow_sub-sums : goal.overflow_sub-sums
+overflow_sub-sums c = first_fits c.args.v c.requires
 
-pub overflow_cast-first : goal.overflow_cast-first
-overflow_cast-first c = first_cast c.args.v c.requires
+pub overflow_cast-sums : goal.overflow_cast-sums
+overflow_cast-sums c = first_cast c.args.v c.requires
 
 pub loop-place-init : goal.loop-place-init
-loop-place-init c = (omega arith, sums_to_none c.args.v.a c.args.v.b _ refl (first_is c.args.v c.requires) refl)
+loop-place-init c = sums_to_none c.args.v.a c.args.v.b _ refl (first_is c.args.v c.requires) refl
 
 -- ---- a low input
-pub overflow_cast-a : goal.overflow_cast-a
-overflow_cast-a c = cast_fits (get_or c.args.v.a c.loop-place.place (pos 0)) (small c.args.v c.requires c.loop-place.place c.loop-place-test.true)
+pub overflow_cast-weight : goal.overflow_cast-weight
+overflow_cast-weight c = cast_fits (get_or c.args.v.a c.loop-place.place (pos 0)) (small c.args.v c.requires c.loop-place.place c.loop-place-test.true)
 
-pub double-requires : goal.double-requires
-double-requires c =
+pub double-requires-clause-sums_fit : goal.double-requires-clause-sums_fit
+double-requires-clause-sums_fit c =
     let v = c.args.v in
     let at = c.loop-place in
-    let half : 2 ^ at.place ≤ 16 = pow_mono {j = 4} (omega arith) in
     rw (one_shifted at.place (omega arith), weight_read v c.requires at.place c.loop-place-test.true)
-    record {
-      sums_len = (at.invariant.1.size, omega arith);
-      sums_fit = λ q l. omega (arith, low_made v 16000 c.requires.0 c.requires.1 at.sums at.place q c.if-place-lt5.true at.invariant.1 l);
-    }
+    (λ q l. omega (arith, low_made v 16000 c.requires.0 c.requires.1 at.sums at.place q c.if-place-lt5.true at.invariant l))
 
 -- ---- a higher input
-pub overflow_cast-a-else-place-lt5 : goal.overflow_cast-a-else-place-lt5
-overflow_cast-a-else-place-lt5 c = cast_fits (get_or c.args.v.a c.loop-place.place (pos 0)) (small c.args.v c.requires c.loop-place.place c.loop-place-test.true)
+pub overflow_cast-weight-else-place-lt5 : goal.overflow_cast-weight-else-place-lt5
+overflow_cast-weight-else-place-lt5 c = cast_fits (get_or c.args.v.a c.loop-place.place (pos 0)) (small c.args.v c.requires c.loop-place.place c.loop-place-test.true)
 
-pub double-requires-else-place-lt5 : goal.double-requires-else-place-lt5
-double-requires-else-place-lt5 c =
+pub double-requires-else-place-lt5-clause-sums_fit : goal.double-requires-else-place-lt5-clause-sums_fit
+double-requires-else-place-lt5-clause-sums_fit c =
     let v = c.args.v in
     let at = c.loop-place in
-    let half : 2 ^ (at.place - 5) ≤ 4 = pow_mono {j = 2} (omega arith) in
     rw (one_shifted (at.place - 5) (omega arith), weight_read v c.requires at.place c.loop-place-test.true)
-    record {
-      sums_len = (at.invariant.1.size, omega arith);
-      sums_fit = λ h l. omega (arith, high_made v 16000 c.requires.0 c.requires.1 at.sums at.place h c.if-place-lt5.false c.loop-place-test.true at.invariant.1 l);
-    }
+    (λ h l. omega (arith, high_made v 16000 c.requires.0 c.requires.1 at.sums at.place h c.if-place-lt5.false c.loop-place-test.true at.invariant l))
 
 -- ---- the loop
 pub loop-place-preserved : goal.loop-place-preserved
@@ -113,14 +104,14 @@ loop-place-preserved c =
       | then-place-lt5 w ↦
           let half = 2 ^ at.place in
           let made : Doubled 0 half half weight at.sums w.double.new.sums = rw (one_shifted at.place (omega arith), read) at w.double.ensures in
-          (omega arith, rw w.sums-is (sums_to_low v.a v.b at.sums w.double.new.sums at.place w.if-place-lt5.true made at.invariant.1))
+          rw w.sums-is (sums_to_low v.a v.b at.sums w.double.new.sums at.place w.if-place-lt5.true made at.invariant)
       | else-place-lt5 w ↦
           let half = 2 ^ (at.place - 5) in
           let made : Doubled 32 half half weight at.sums w.double-else-place-lt5.new.sums = rw (one_shifted (at.place - 5) (omega arith), read) at w.double-else-place-lt5.ensures in
-          (omega arith, rw w.sums-is (sums_to_high v.a v.b at.sums w.double-else-place-lt5.new.sums at.place w.if-place-lt5.false made at.invariant.1))
+          rw w.sums-is (sums_to_high v.a v.b at.sums w.double-else-place-lt5.new.sums at.place w.if-place-lt5.false made at.invariant)
     ]
 
 pub returns : goal.returns
 returns c =
     let last : c.loop-place.place ≡ 8 = omega arith in
-    sums_to_all c.args.v c.loop-place.sums (rw last at c.loop-place.invariant.1)
+    sums_to_all c.args.v c.loop-place.sums (rw last at c.loop-place.invariant)

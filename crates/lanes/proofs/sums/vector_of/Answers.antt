@@ -17,14 +17,12 @@ use Rattle.lanes.proofs.sums.vector_of.Goals as goal
 use Rattle.lanes.proofs.sums.vector_of.Invariants.{weight, zeros}
 
 pub loop-place-init : goal.loop-place-init
-loop-place-init c = (omega arith, λ v e. filled_none (weight v) zeros)
+loop-place-init c v e = filled_none (weight v) zeros
 
 pub loop-place-preserved : goal.loop-place-preserved
-loop-place-preserved c = (
-  omega arith,
-  λ v e. filled_more (weight v) zeros c.loop-place.place (omega arith) (c.loop-place.invariant.1 v e)
-      (back w32 c.weight_at-weight.type_inv ∙ c.weight_at-weight.ensures v e),
-)
+loop-place-preserved c v e =
+    filled_more (weight v) zeros c.loop-place.place (omega arith) (c.loop-place.invariant v e)
+    (back w32 c.weight_at.type_inv ∙ c.weight_at.ensures v e)
 
 -- b, which the code takes from 0 at 32 bits
 threshold_is : (x : ℤ) → SFits w16 x → to_z w32 (of_z w32 (pos 0 -ℤ to_z w32 (of_z w32 (to_z w16 (of_z w16 x))))) ≡ pos 0 -ℤ x
@@ -36,7 +34,7 @@ pub returns : goal.returns
 returns c v eight e =
     let first : SFits w16 (get_or c.args.sums.now 0 (pos 0)) = search rules in
     vector_eq _ _
-    (filled_all (weight v) zeros c.loop-place.place 8 (omega arith) (omega arith) (c.loop-place.invariant.1 v e)
+    (filled_all (weight v) zeros c.loop-place.place 8 (omega arith) (omega arith) (c.loop-place.invariant v e)
     ∙ sym (tabulate_get_d (weight v) 8 (pos 0) v.a eight (λ i h. refl)))
     (threshold_is (get_or c.args.sums.now 0 (pos 0)) first
     ∙ ap (λ (l : List ℤ). pos 0 -ℤ get_or l 0 (pos 0)) e

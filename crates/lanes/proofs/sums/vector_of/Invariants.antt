@@ -1,8 +1,8 @@
--- `sums::vector_of` meets its contract. The loop's invariant: the weights below `place` are those of a vector that has the sums. The
--- measure is the number of places left. Assumes nothing.
+-- `sums::vector_of` meets its contract. The loop's invariant: the weights below `place` are those of a vector that has the sums.
+-- Assumes nothing.
 use mathlib.Core.Path.{◌≡◌}
 use mathlib.Core.List.{List}
-use Prim.Native.Nat.{ℕ, ◌-◌, ◌≤◌}
+use Prim.Native.Nat.{ℕ}
 use lib.ListN.{get_or, replicate}
 use lib.IntN.{ℤ, pos}
 use Rattle.numbers.proofs.TabulateLaws.{filled}
@@ -19,7 +19,4 @@ abbrev pub zeros : List ℤ
 zeros = replicate 8 (pos 0)
 
 abbrev pub invariant-loop-place : goal.invariant-loop-place
-invariant-loop-place l = (l.place ≤ 8) × ((v : Vector) → l.sums ≡ vector_sums v → l.a ≡ filled (weight v) zeros l.place)
-
-abbrev pub decreases-loop-place : goal.decreases-loop-place
-decreases-loop-place l = 8 - l.place
+invariant-loop-place l = (v : Vector) → l.sums ≡ vector_sums v → l.weight-items ≡ filled (weight v) zeros l.place

@@ -4,16 +4,13 @@ use mathlib.Core.Path.{◌≡◌, sym, ◌∙◌, ap}
 use Prim.Native.Nat.{ℕ, ◌-◌, ◌%◌, ◌^◌}
 use native.Mathlib.Nat.{one-mul, mod-eq_of_lt}
 use native.Mathlib.Omega.{arith}
-use lib.Count.{count_leading_zeros, leading_top}
+use lib.Count.{count_leading_zeros}
 use Rattle.numbers.specs.Power.{highest}
 use Rattle.numbers.proofs.PowerLaws.{highest_zero, highest_shift, highest_le}
 use Rattle.machine.proofs.power.top_power.Goals as goal
 
 pub returns-then-k-eq0 : goal.returns-then-k-eq0
 returns-then-k-eq0 c = rw c.if-k-eq0.true (sym highest_zero)
-
-pub overflow_sub-result : goal.overflow_sub-result
-overflow_sub-result c = omega (arith, (leading_top 32 c.args.k (omega (arith, c.if-k-eq0.false)) c.ranges.k.fits).1)
 
 pub returns : goal.returns
 returns c =

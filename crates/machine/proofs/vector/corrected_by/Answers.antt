@@ -6,7 +6,7 @@ use mathlib.Core.List.{List, ◌++◌}
 use Prim.Native.Nat.{ℕ, suc, ◌+◌, ◌≤◌, ◌<◌}
 use native.Mathlib.Omega.{arith}
 use lib.ListN.{length, get_or, set, drop}
-use lib.Seq.{drop-cons, get_or_at, set-get_or}
+use lib.Seq.{drop-cons, get_or_at}
 use lib.IntN.{ℤ, pos, nat_abs, ◌+ℤ◌, ◌-ℤ◌, ◌*ℤ◌, zero-*ℤ, +ℤ_idr}
 use mir.Syntax.{w32}
 use mir.Val.{to_z, of_z, SFits}
@@ -26,7 +26,7 @@ use Rattle.function.proofs.VectorLaws.{get_d_add_levels, corrected_weights, corr
 use Rattle.function.proofs.RangeLaws.{InRange, in_range_correct, in_range_at}
 use Rattle.machine.proofs.RangeLaws.{row_in_range}
 use Rattle.machine.proofs.vector.corrected_by.Goals as goal
-use Rattle.machine.proofs.vector.corrected_by.Goals.{then-value, else-value, then-row-place-eq1, else-row-place-eq1}
+use Rattle.machine.proofs.vector.corrected_by.Goals.{Joined-value, then-value, else-value, then-row-place-eq1, else-row-place-eq1}
 use Rattle.machine.proofs.vector.corrected_by.Invariants.{weight}
 
 module _ (value : Bool) (row : ℕ) (v : Vector) (place : ℕ) (h : place < length v.a) where
@@ -102,57 +102,52 @@ module _ (value : Bool) (row : ℕ) (v : Vector) (h : (row < 256) × (in_range w
       filled_all f v.a place 8 (omega arith) (omega arith) so_far
       ∙ sym (tabulate_get_d f 8 (pos 0) corrected.a (length_corrected value (level 2 row) v ∙ eight) (λ i h. refl))
 
-pub loop-place-init : goal.loop-place-init
-loop-place-init c = (omega arith, refl, filled_none _ _)
-
 -- the step is the sign of the row's value
 sign_at : {value taken : Bool} {step : ℤ} → value ≡ taken → step ≡ sign taken → step ≡ sign value
 sign_at v s = s ∙ ap sign (sym v)
 
-pub overflow_add-next : goal.overflow_add-next
-overflow_add-next c =
-    let step : to_z w32 c.if-value.step-bits ≡ sign c.args.value =
-    elim c.if-value.branch [ then-value w ↦ sign_at w.if-value.true w.step-is | else-value w ↦ sign_at w.if-value.false w.step-is ] in
-    sum_fits c.args.value c.args.row c.args.v c.requires (search rules) c.loop-place.next.a c.loop-place.place c.loop-place-test.true c.loop-place.invariant.2
-    c.if-value.step-bits step c.if-row-place-eq1.true
+step_is : (c : Joined-value) → to_z w32 c.if-value.step-bits ≡ sign c.args.value
+step_is c = elim c.if-value.branch [ then-value w ↦ sign_at w.if-value.true w.step-is | else-value w ↦ sign_at w.if-value.false w.step-is ]
+
+pub loop-place-init : goal.loop-place-init
+loop-place-init c = filled_none _ _
+
+pub overflow_add-weight : goal.overflow_add-weight
+overflow_add-weight c =
+    let a = c.args in
+    let place = c.loop-place.place in
+    sum_fits a.value a.row a.v c.requires (search rules) c.loop-place.weight-items place (omega arith) c.loop-place.invariant
+    c.if-value.step-bits (step_is (goal.at.overflow_add-weight c).Joined-value) c.if-row-place-eq1.true
 
 pub loop-place-preserved : goal.loop-place-preserved
 loop-place-preserved c =
-    let v = c.args.v in
+    let a = c.args in
+    let ws = c.loop-place.weight-items in
     let place = c.loop-place.place in
-    let so_far = c.loop-place.invariant.2 in
-    let eight : length v.a ≡ 8 = search rules in
-    let step : to_z w32 c.if-value.step-bits ≡ sign c.args.value =
-    elim c.if-value.branch [ then-value w ↦ sign_at w.if-value.true w.step-is | else-value w ↦ sign_at w.if-value.false w.step-is ] in
+    let so_far = c.loop-place.invariant in
+    let bits = c.if-value.step-bits in
+    let eight : length a.v.a ≡ 8 = search rules in
+    let step = step_is (goal.at.loop-place-preserved c).Joined-value in
     elim c.if-row-place-eq1.branch [
       | then-row-place-eq1 w ↦
-          let fits = sum_fits c.args.value c.args.row v c.requires eight c.loop-place.next.a place c.loop-place-test.true so_far c.if-value.step-bits step w.if-row-place-eq1.true in
-          let sum = sum_is c.args.value c.args.row v c.requires eight c.loop-place.next.a place c.loop-place-test.true so_far c.if-value.step-bits step w.if-row-place-eq1.true in (
-            omega arith,
-            ap (λ (u : Vector). u.b) w.next-is ∙ c.loop-place.invariant.1,
-            ap (λ (u : Vector). u.a) w.next-is ∙ carried c.args.value c.args.row v c.requires eight c.loop-place.next.a place c.loop-place-test.true so_far _ (to_z-of_z fits ∙ sum),
-          )
+          let fits = sum_fits a.value a.row a.v c.requires eight ws place (omega arith) so_far bits step w.if-row-place-eq1.true in
+          let sum = sum_is a.value a.row a.v c.requires eight ws place (omega arith) so_far bits step w.if-row-place-eq1.true in
+          w.weight-items-is ∙ carried a.value a.row a.v c.requires eight ws place (omega arith) so_far _ (to_z-of_z fits ∙ sum)
       | else-row-place-eq1 w ↦
-          let kept = kept_is c.args.value c.args.row v c.requires eight c.loop-place.next.a place c.loop-place-test.true so_far w.if-row-place-eq1.false in (
-            omega arith,
-            ap (λ (u : Vector). u.b) w.next-is ∙ c.loop-place.invariant.1,
-            ap (λ (u : Vector). u.a) w.next-is ∙ sym (set-get_or _ _ (pos 0)) ∙ carried c.args.value c.args.row v c.requires eight c.loop-place.next.a place c.loop-place-test.true so_far _ kept,
-          )
+          let kept = kept_is a.value a.row a.v c.requires eight ws place (omega arith) so_far w.if-row-place-eq1.false in
+          w.weight-items-is ∙ carried a.value a.row a.v c.requires eight ws place (omega arith) so_far _ kept
     ]
 
 pub overflow_sub-next : goal.overflow_sub-next
 overflow_sub-next c =
-    let eight : length c.args.v.a ≡ 8 = search rules in
-    let step : to_z w32 c.if-value.step-bits ≡ sign c.args.value =
-    elim c.if-value.branch [ then-value w ↦ sign_at w.if-value.true w.step-is | else-value w ↦ sign_at w.if-value.false w.step-is ] in
-    rw (threshold_is c.args.value c.args.row c.args.v c.requires eight c.loop-place.next.b c.if-value.step-bits c.loop-place.invariant.1 step)
-    (limit_fits (after_range c.args.value c.args.row c.args.v c.requires eight).threshold)
+    let a = c.args in
+    let eight : length a.v.a ≡ 8 = search rules in
+    rw (threshold_is a.value a.row a.v c.requires eight a.v.b c.if-value.step-bits refl (step_is (goal.at.overflow_sub-next c).Joined-value))
+    (limit_fits (after_range a.value a.row a.v c.requires eight).threshold)
 
 pub returns : goal.returns
 returns c =
-    let eight : length c.args.v.a ≡ 8 = search rules in
-    let step : to_z w32 c.if-value.step-bits ≡ sign c.args.value =
-    elim c.if-value.branch [ then-value w ↦ sign_at w.if-value.true w.step-is | else-value w ↦ sign_at w.if-value.false w.step-is ] in
-    vector_eq _ _ (weights_are c.args.value c.args.row c.args.v c.requires eight c.loop-place.next.a c.loop-place.place (omega arith) c.loop-place.invariant.2)
-    (to_z-of_z (overflow_sub-next c)
-    ∙ threshold_is c.args.value c.args.row c.args.v c.requires eight c.loop-place.next.b c.if-value.step-bits c.loop-place.invariant.1 step)
+    let a = c.args in
+    let eight : length a.v.a ≡ 8 = search rules in
+    vector_eq _ _ (weights_are a.value a.row a.v c.requires eight c.loop-place.weight-items c.loop-place.place (omega arith) c.loop-place.invariant)
+    (to_z-of_z (overflow_sub-next c) ∙ threshold_is a.value a.row a.v c.requires eight a.v.b c.if-value.step-bits refl (step_is (goal.at.returns c).Joined-value))

@@ -1,6 +1,6 @@
--- `crate::vector::corrected_by`. The loop's invariant: the weights below `place` are those of the corrected vector, and the others and b
--- are as they came. The measure is the number of places left. Assumes nothing.
-use Rattle.std.proofs.Common.{◌≡◌, ℕ, ◌-◌, ◌≤◌, Bool, get_or, ℤ, pos}
+-- `crate::vector::corrected_by`. The loop's invariant: the weights below `place` are those of the corrected vector, and the others are
+-- as they came. Assumes nothing.
+use Rattle.std.proofs.Common.{◌≡◌, ℕ, Bool, get_or, ℤ, pos}
 use Rattle.numbers.proofs.TabulateLaws.{filled}
 use Rattle.function.specs.Function.{level}
 use Rattle.types.specs.declared.vector.Vector.{Vector}
@@ -12,7 +12,4 @@ abbrev pub weight : Bool → ℕ → Vector → ℕ → ℤ
 weight value row v place = get_or (corrected_by value (level 2 row) v).a place (pos 0)
 
 abbrev pub invariant-loop-place : goal.invariant-loop-place
-invariant-loop-place l = (l.place ≤ 8) × (l.next.b ≡ l.initial.next.b) × (l.next.a ≡ filled (weight l.value l.row l.initial.next) l.initial.next.a l.place)
-
-abbrev pub decreases-loop-place : goal.decreases-loop-place
-decreases-loop-place l = 8 - l.place
+invariant-loop-place l = l.weight-items ≡ filled (weight l.value l.row l.fn.v) l.fn.v.a l.place

@@ -10,7 +10,7 @@ use Rattle.numbers.proofs.Widths.{wide_back}
 use Rattle.numbers.proofs.Int.{back}
 use Rattle.codec.specs.Written.{Room}
 use Rattle.text.specs.Text.{decimal, signed_text, spaced}
-use Rattle.text.proofs.FieldWriting.{Left, all_left, next_room, next_left}
+use Rattle.text.proofs.FieldWriting.{Left, all_left, next_left}
 use Rattle.notation.specs.GateText.{size, weights_text, gate_text}
 use Rattle.notation.proofs.gate.put_gate.Goals as goal
 
@@ -40,53 +40,10 @@ from_size g = size_text g ++ from_weights g
 abbrev from_k : ℕ → Gate → List ℕ
 from_k k g = number k ++ from_size g
 
--- what is left at each position
-module _ (out : List ℕ) (at k : ℕ) (g : Gate) where
-  abbrev GateLeft : List ℕ → ℕ → List ℕ → Type 0
-  GateLeft now here rest = Left out at (gate_text k g) now here rest
-
-  at_letter : Room out at (gate_text k g) → GateLeft out at (letter ++ from_k k g)
-  unfolding gate_text
-  at_letter room = all_left out at (gate_text k g) room
-
-pub put_letter-here-requires : goal.put_letter-here-requires
-put_letter-here-requires c =
-    let a = c.args in
-    next_room letter (from_k a.k a.gate) (at_letter a.out.now a.at a.k a.gate c.requires.1)
-
-pub put_number-here-requires : goal.put_number-here-requires
-put_number-here-requires c =
-    let a = c.args in
-    let at_k = next_left letter (from_k a.k a.gate) (at_letter a.out.now a.at a.k a.gate c.requires.1) c.put_letter-here.ensures in
-    next_room (number a.k) (from_size a.gate) at_k
-
-pub put_signed-here-requires : goal.put_signed-here-requires
-put_signed-here-requires c =
-    let a = c.args in
-    let size_is : to_z w64 (of_z w64 c.size_of.result) ≡ size a.gate = back w64 {a = c.size_of.result} c.size_of.type_inv ∙ c.size_of.ensures in
-    let at_k = next_left letter (from_k a.k a.gate) (at_letter a.out.now a.at a.k a.gate c.requires.1) c.put_letter-here.ensures in
-    let at_size = next_left (number a.k) (from_size a.gate) at_k c.put_number-here.ensures in
-    rw size_is (next_room (size_text a.gate) (from_weights a.gate) at_size)
-
-pub put_weights-here-requires : goal.put_weights-here-requires
-put_weights-here-requires c =
-    let a = c.args in
-    let size_is : to_z w64 (of_z w64 c.size_of.result) ≡ size a.gate = back w64 {a = c.size_of.result} c.size_of.type_inv ∙ c.size_of.ensures in
-    let at_k = next_left letter (from_k a.k a.gate) (at_letter a.out.now a.at a.k a.gate c.requires.1) c.put_letter-here.ensures in
-    let at_size = next_left (number a.k) (from_size a.gate) at_k c.put_number-here.ensures in
-    let at_weights = next_left (size_text a.gate) (from_weights a.gate) at_size (rw size_is at c.put_signed-here.ensures) in
-    (c.requires.0, next_room (weights a.gate) (threshold a.gate) at_weights)
-
-pub put_signed-requires : goal.put_signed-requires
-put_signed-requires c =
-    let a = c.args in
-    let size_is : to_z w64 (of_z w64 c.size_of.result) ≡ size a.gate = back w64 {a = c.size_of.result} c.size_of.type_inv ∙ c.size_of.ensures in
-    let f : SFits w32 a.gate.threshold = search rules in
-    let at_k = next_left letter (from_k a.k a.gate) (at_letter a.out.now a.at a.k a.gate c.requires.1) c.put_letter-here.ensures in
-    let at_size = next_left (number a.k) (from_size a.gate) at_k c.put_number-here.ensures in
-    let at_weights = next_left (size_text a.gate) (from_weights a.gate) at_size (rw size_is at c.put_signed-here.ensures) in
-    let at_threshold = next_left (weights a.gate) (threshold a.gate) at_weights c.put_weights-here.ensures in
-    rw (wide_back w64 tt f) at_threshold.room
+-- what is left at first
+at_letter : (out : List ℕ) (at k : ℕ) (g : Gate) → Room out at (gate_text k g) → Left out at (gate_text k g) out at (letter ++ from_k k g)
+unfolding gate_text
+at_letter out at k g room = all_left out at (gate_text k g) room
 
 pub returns : goal.returns
 returns c =

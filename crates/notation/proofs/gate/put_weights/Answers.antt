@@ -1,11 +1,13 @@
 -- `gate::put_weights` meets its contract: the weights are written one behind the other. Assumes nothing.
 use mathlib.Core.Path.{◌≡◌, refl, sym}
 use mathlib.Core.List.{List, [], ◌++◌}
-use Prim.Native.Nat.{ℕ, zero, suc, ◌+◌}
+use Prim.Native.Nat.{ℕ, zero, suc, ◌+◌, ◌<◌}
 use native.Mathlib.Nat.{zero-add}
 use native.Mathlib.Omega.{arith}
 use borrow.Author.Rules.{rules}
-use lib.ListN.{get_or}
+use lib.Seq.{length-take-le}
+use lib.ListN.{length, get_or, take}
+use Rattle.std.proofs.lemmas.List.{get_or-take}
 use lib.IntN.{ℤ, pos}
 use mir.Syntax.{w32, w64}
 use mir.Val.{SFits, to_z, of_z}
@@ -14,6 +16,7 @@ use Rattle.codec.proofs.WrittenLaws.{written_nil, next_room, next_written}
 use Rattle.text.specs.Text.{signed_text, spaced}
 use Rattle.notation.specs.GateText.{weights_text}
 use Rattle.text.proofs.DecimalLaws.{one_after_last}
+use Rattle.notation.proofs.WeightLaws.{signed_fits_row}
 use Rattle.notation.proofs.gate.put_weights.Goals as goal
 
 module _ (a : List ℤ) where
@@ -37,25 +40,29 @@ module _ (a : List ℤ) where
   weights_more m = rw zero-add at (one_after_last (weights_text a) weight_at none first m 0)
 
 -- a weight that is passed on by its bits
-read_back : (x : ℤ) → SFits w32 x → to_z w64 (of_z w64 (to_z w32 (of_z w32 x))) ≡ x
-read_back x f = wide_back w64 tt f
+read_back : (a : List ℤ) (n place : ℕ) → place < n → SFits w32 (get_or a place (pos 0))
+    → to_z w64 (of_z w64 (to_z w32 (of_z w32 (get_or (take n a) place (pos 0))))) ≡ get_or a place (pos 0)
+read_back a n place h f = rw (get_or-take n a place (pos 0) h) (wide_back w64 tt f)
 
-pub loop-place-init : goal.loop-place-init
-loop-place-init c =
-    let a = c.args in (search rules, rw none (omega arith, sym (written_nil a.out.now a.at)))
+pub loop-weight-init : goal.loop-weight-init
+loop-weight-init c = rw none (omega arith, sym (written_nil c.args.out.now c.args.at))
 
 pub put_signed-here-requires : goal.put_signed-here-requires
 put_signed-here-requires c =
     let a = c.args in
-    let f : SFits w32 (get_or a.weights c.loop-place.place (pos 0)) = search rules in
-    rw (read_back (get_or a.weights c.loop-place.place (pos 0)) f)
-    (next_room (weights a.weights) (weight_at a.weights) (weights_more a.weights) a.n a.out.now a.at c.requires.1 c.loop-place.place (omega arith) c.loop-place.invariant.1)
+    let place = c.loop-weight.weight-index in
+    let count : length a.weights ≡ 8 = search rules in
+    let below : place < a.n = omega (arith, length-take-le a.n a.weights) in
+    let f : SFits w32 (get_or a.weights place (pos 0)) = search (rules, signed_fits_row) in
+    rw (read_back a.weights a.n place below f)
+    (next_room (weights a.weights) (weight_at a.weights) (weights_more a.weights) a.n a.out.now a.at c.requires.1 place below c.loop-weight.invariant)
 
-pub loop-place-preserved : goal.loop-place-preserved
-loop-place-preserved c =
+pub loop-weight-preserved : goal.loop-weight-preserved
+loop-weight-preserved c =
     let a = c.args in
-    let f : SFits w32 (get_or a.weights c.loop-place.place (pos 0)) = search rules in
-    let wrote = rw (read_back (get_or a.weights c.loop-place.place (pos 0)) f) at c.put_signed-here.ensures in (
-      omega arith,
-      next_written (weights a.weights) (weight_at a.weights) (weights_more a.weights) a.n a.out.now a.at c.requires.1 c.loop-place.place (omega arith) c.loop-place.invariant.1 wrote,
-    )
+    let place = c.loop-weight.weight-index in
+    let count : length a.weights ≡ 8 = search rules in
+    let below : place < a.n = omega (arith, length-take-le a.n a.weights) in
+    let f : SFits w32 (get_or a.weights place (pos 0)) = search (rules, signed_fits_row) in
+    let wrote = rw (read_back a.weights a.n place below f) at c.put_signed-here.ensures in
+    next_written (weights a.weights) (weight_at a.weights) (weights_more a.weights) a.n a.out.now a.at c.requires.1 place below c.loop-weight.invariant wrote

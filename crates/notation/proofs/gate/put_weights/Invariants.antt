@@ -1,12 +1,8 @@
--- `gate::put_weights` meets its contract. The loop's invariant: the weights below `place` are written, and `here` is the position behind them.
--- The measure is the number of places left. Assumes nothing.
-use Prim.Native.Nat.{◌-◌, ◌≤◌}
+-- `gate::put_weights` meets its contract. The loop's invariant: the weights that were passed are written, and `here` is the position behind
+-- them. Assumes nothing.
 use Rattle.codec.specs.Written.{Put}
 use Rattle.notation.specs.GateText.{weights_text}
 use Rattle.notation.proofs.gate.put_weights.Given as goal
 
-abbrev pub invariant-loop-place : goal.invariant-loop-place
-invariant-loop-place l = (l.place ≤ l.n) × Put l.initial.out l.at (weights_text l.weights l.place 0) l.out l.here
-
-abbrev pub decreases-loop-place : goal.decreases-loop-place
-decreases-loop-place l = l.n - l.place
+abbrev pub invariant-loop-weight : goal.invariant-loop-weight
+invariant-loop-weight l = Put l.initial.out l.at (weights_text l.fn.weights l.weight-index 0) l.out l.here

@@ -11,7 +11,6 @@ use mir.Syntax.{w32, w64}
 use mir.Val.{to_z, of_z, SFits}
 use mir.Facts.{to_z-of_z}
 use borrow.Author.Rules.{rules}
-use Rattle.numbers.specs.Sum.{weighted_sum}
 use Rattle.numbers.proofs.Int.{up, dn, size_add}
 use Rattle.numbers.proofs.Ring.{*ℤ_idl}
 use Rattle.numbers.proofs.SumLaws.{weighted_sum_nil, weighted_sum_suc}
@@ -28,31 +27,30 @@ sum_next a place z h f (is, small) = (
   omega (arith, size_add z (get_or a place (pos 0)), fits_size f),
 )
 
-pub loop-place-init : goal.loop-place-init
-loop-place-init c = (omega arith, (sym (weighted_sum_nil _), omega arith))
-
 -- the sum with a weight, read back from the bits to which the code writes it
 sum_back : (z x : ℤ) → SFits w32 x → up z + dn z ≤ 8 * 2 ^ 31
     → to_z w64 (of_z w64 (z +ℤ to_z w64 (of_z w64 (to_z w32 (of_z w32 x))))) ≡ z +ℤ x
 sum_back z x f h = rw (wide_back w64 tt f) (to_z-of_z {w = w64} (size_fits (omega (arith, size_add z x, fits_size f))))
 
-pub loop-place-preserved : goal.loop-place-preserved
-loop-place-preserved c =
+pub loop-weight-init : goal.loop-weight-init
+loop-weight-init c = (sym (weighted_sum_nil _), omega arith)
+
+pub loop-weight-preserved : goal.loop-weight-preserved
+loop-weight-preserved c =
     let ws = c.args.gate.weights in
-    let place = c.loop-place.place in
+    let place = c.loop-weight.weight-index in
     let count : length ws ≡ 8 = search rules in
-    let z = to_z w64 c.loop-place.sum-bits in
+    let z = to_z w64 c.loop-weight.sum-bits in
     let f : SFits w32 (get_or ws place (pos 0)) = search rules in
-    let s = sum_next ws place z (omega arith) f c.loop-place.invariant.1 in
-    (omega arith, rw (sum_back z (get_or ws place (pos 0)) f (omega (arith, c.loop-place.invariant.1.1))) s)
+    let s = sum_next ws place z (omega arith) f c.loop-weight.invariant in
+    rw (sum_back z (get_or ws place (pos 0)) f (omega (arith, c.loop-weight.invariant.1))) s
 
 pub returns : goal.returns
 unfolding size
 returns c =
     let ws = c.args.gate.weights in
-    let z = to_z w64 c.loop-place.sum-bits in
     let count : length ws ≡ 8 = search rules in
     let f : SFits w32 c.args.gate.threshold = search rules in
-    let all : take c.loop-place.place ws ≡ ws = take_all c.loop-place.place ws (omega arith) in
-    let sum : z ≡ weighted_sum ws (λ place. 1) = rw all at c.loop-place.invariant.1.0 in
-    sum_back z c.args.gate.threshold f (omega (arith, c.loop-place.invariant.1.1)) ∙ ap (λ (s : ℤ). s +ℤ c.args.gate.threshold) sum
+    let all : take c.loop-weight.weight-index ws ≡ ws = take_all c.loop-weight.weight-index ws (omega arith) in
+    let sum = rw all at c.loop-weight.invariant.0 in
+    sum_back (to_z w64 c.loop-weight.sum-bits) c.args.gate.threshold f (omega (arith, c.loop-weight.invariant.1)) ∙ ap (λ (s : ℤ). s +ℤ c.args.gate.threshold) sum

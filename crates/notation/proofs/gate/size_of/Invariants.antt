@@ -1,8 +1,8 @@
--- `gate::size_of` meets its contract. The loop's invariant: `sum` is the sum of the weights below `place`, at most `place` * 2^31 in size, so
--- that no step wraps. The measure is the number of places left. Assumes nothing.
+-- `gate::size_of` meets its contract. The loop's invariant: `sum` is the sum of the weights that were passed, each at most 2^31 in size, so
+-- that no step wraps. Assumes nothing.
 use mathlib.Core.Path.{◌≡◌}
 use mathlib.Core.List.{List}
-use Prim.Native.Nat.{ℕ, ◌+◌, ◌*◌, ◌-◌, ◌^◌, ◌≤◌}
+use Prim.Native.Nat.{ℕ, ◌+◌, ◌*◌, ◌^◌, ◌≤◌}
 use lib.ListN.{take}
 use lib.IntN.{ℤ}
 use Rattle.numbers.specs.Sum.{weighted_sum}
@@ -13,8 +13,5 @@ use Rattle.notation.proofs.gate.size_of.Given as goal
 abbrev pub SumTo : List ℤ → ℕ → ℤ → Type 0
 SumTo a place z = (z ≡ weighted_sum (take place a) (λ place. 1)) × (up z + dn z ≤ place * 2 ^ 31)
 
-abbrev pub invariant-loop-place : goal.invariant-loop-place
-invariant-loop-place l = (l.place ≤ 8) × SumTo l.weights l.place l.sum
-
-abbrev pub decreases-loop-place : goal.decreases-loop-place
-decreases-loop-place l = 8 - l.place
+abbrev pub invariant-loop-weight : goal.invariant-loop-weight
+invariant-loop-weight l = SumTo l.fn.gate.weights l.weight-index l.sum

@@ -6,7 +6,7 @@ use Rattle.table.specs.Table.{rows}
 use Rattle.table.proofs.TableLaws.{rows_le}
 use Rattle.codec.specs.Written.{Room}
 use Rattle.text.specs.Text.{decimal, spaced}
-use Rattle.text.proofs.FieldWriting.{Left, all_left, next_room, next_left}
+use Rattle.text.proofs.FieldWriting.{Left, all_left, next_left}
 use Rattle.notation.specs.WitnessText.{height, pairs_text, witness_text}
 use Rattle.notation.proofs.witness.put_witness.Goals as goal
 
@@ -34,24 +34,6 @@ module _ (t : Table) (counts : List ℕ) where
   at_letter : (out : List ℕ) (at k : ℕ) → Room out at (witness_text k t counts) → Left out at (witness_text k t counts) out at (letter ++ from_k k)
   unfolding witness_text
   at_letter out at k room = all_left out at (witness_text k t counts) room
-
-pub put_letter-here-requires : goal.put_letter-here-requires
-put_letter-here-requires c =
-    let a = c.args in
-    next_room letter (from_k a.table a.counts.now a.k) (at_letter a.table a.counts.now a.out.now a.at a.k c.requires.1)
-
-pub put_number-here-requires : goal.put_number-here-requires
-put_number-here-requires c =
-    let a = c.args in
-    let at_k = next_left letter (from_k a.table a.counts.now a.k) (at_letter a.table a.counts.now a.out.now a.at a.k c.requires.1) c.put_letter-here.ensures in
-    next_room (number a.k) (from_height a.table a.counts.now) at_k
-
-pub put_number-here-requires-2 : goal.put_number-here-requires-2
-put_number-here-requires-2 c =
-    let a = c.args in
-    let at_k = next_left letter (from_k a.table a.counts.now a.k) (at_letter a.table a.counts.now a.out.now a.at a.k c.requires.1) c.put_letter-here.ensures in
-    let at_height = next_left (number a.k) (from_height a.table a.counts.now) at_k c.put_number-here.ensures in
-    rw c.height_of.ensures (next_room (height_text a.table a.counts.now) (pairs a.table a.counts.now) at_height)
 
 pub put_pairs-requires : goal.put_pairs-requires
 put_pairs-requires c =

@@ -1,36 +1,18 @@
--- `crate::tables::bytes_at` meets its contract. The loop's invariant: the array holds the first `i` bytes from the position on, and zeros
--- behind them. The measure is what is left of the bytes. Assumes nothing.
-use mathlib.Core.Path.{◌≡◌, ◌∙◌, ap}
+-- `crate::tables::bytes_at` meets its contract: in an array of zeros, zeros are left behind the bytes. Assumes nothing.
+use mathlib.Core.Path.{◌≡◌}
+use Prim.Native.Nat.{ℕ, ◌+◌, ◌-◌, ◌≤◌}
 use native.Mathlib.Omega.{arith}
-use lib.ListN.{drop, replicate, length-drop}
-use Rattle.reading.proofs.TableLaws.{copied, copied_more, copied_zeros}
+use lib.ListN.{length, take, drop, length-drop}
+use lib.Seq.{length-take-le}
+use Rattle.numbers.proofs.TabulateLaws.{drop_replicate}
 use Rattle.reading.proofs.tables.bytes_at.Goals as goal
-
-pub bounds-own-i : goal.bounds-own-i
-bounds-own-i c = omega arith
-
-pub loop-i-preserved : goal.loop-i-preserved
-loop-i-preserved c =
-    let a = c.args in
-    let round = c.loop-i in
-    (omega arith, rw round.invariant.1 (copied_more (replicate 32 0) a.bytes.now a.at round.i (bounds-own-i c) (omega arith)))
 
 pub returns : goal.returns
 returns c =
-    let a = c.args in
-    let rest = drop a.at a.bytes.now in
-    let l = c.loop-i in
-    let all : l.i ≡ a.count = omega arith in
-    l.invariant.1 ∙ ap (copied (replicate 32 0) rest) all ∙ copied_zeros 32 rest a.count c.requires.0 (rw length-drop (omega arith))
-
-pub overflow_add-own : goal.overflow_add-own
-overflow_add-own c = omega arith
-
-pub bounds-bytes-at : goal.bounds-bytes-at
-bounds-bytes-at c = omega arith
-
-pub overflow_add-i : goal.overflow_add-i
-overflow_add-i c = omega arith
-
-pub loop-i-smaller : goal.loop-i-smaller
-loop-i-smaller c = omega arith
+    let s = c.args.bytes.now in
+    let at = c.args.at in
+    let count = c.args.count in
+    let copied : at + count - at ≡ count = omega arith in
+    let long : length (take count (drop at s)) ≡ count = length-take-le count (drop at s) (omega (arith, length-drop at s)) in
+    let few : count ≤ 32 = omega arith in
+    rw (c.copy_from_slice.ensures.after, copied, long, drop_replicate {A = ℕ} count 32 0)

@@ -1,22 +1,14 @@
 -- `line::put_mean` meets its contract: the whole part, a point and the tenths are written one behind the other, or a dash. Assumes nothing.
-use mathlib.Core.Path.{◌≡◌, refl, ap}
+use mathlib.Core.Path.{◌≡◌, refl}
 use mathlib.Core.List.{List, [], ◌∷◌, ◌++◌}
 use Prim.Native.Nat.{ℕ, zero, suc, ◌+◌, ◌/◌, ◌%◌, ◌≤◌, ◌<◌}
 use native.Mathlib.Omega.{arith}
 use lib.ListN.{length}
 use Rattle.text.specs.Text.{decimal}
 use Rattle.reporting.specs.Lines.{mean_tenths, mean_text}
-use Rattle.text.proofs.FieldWriting.{Left, all_left, next_room, next_left}
+use Rattle.text.proofs.FieldWriting.{Left, all_left, next_left}
 use Rattle.reporting.proofs.line.put_mean.Goals as goal
 
--- ---- no gates
-pub put_byte-requires : goal.put_byte-requires
-put_byte-requires c = omega (arith, c.requires.2, ap (λ (gates : ℕ). length (mean_text gates c.args.sum)) c.if-gates-eq0.true)
-
-pub returns-then-gates-eq0 : goal.returns-then-gates-eq0
-returns-then-gates-eq0 c = rw c.if-gates-eq0.true c.put_byte.ensures
-
--- ---- a mean
 abbrev point : List ℕ
 point = 46 ∷ []
 
@@ -35,30 +27,6 @@ mean_parts (suc gates) sum x h e = rw e refl
 at_whole : (out : List ℕ) (at gates sum x : ℕ) → 0 < gates → x ≡ mean_tenths gates sum → at + length (mean_text gates sum) ≤ length out
     → Left out at (mean_text gates sum) out at (whole x ++ (point ++ tenths x))
 at_whole out at gates sum x h e room = rw (← mean_parts gates sum x h e) (all_left out at (mean_text gates sum) room)
-
-pub mean_tenths-tenths-requires : goal.mean_tenths-tenths-requires
-mean_tenths-tenths-requires c = (omega arith, c.requires.0, c.requires.1)
-
-pub put_decimal-here-requires : goal.put_decimal-here-requires
-put_decimal-here-requires c =
-    let a = c.args in
-    let x = c.mean_tenths-tenths.result in
-    next_room (whole x) (point ++ tenths x) (at_whole a.out.now a.at a.gates a.sum x (omega arith) c.mean_tenths-tenths.ensures c.requires.2)
-
-pub put_byte-here-requires : goal.put_byte-here-requires
-put_byte-here-requires c =
-    let a = c.args in
-    let x = c.mean_tenths-tenths.result in
-    let first = at_whole a.out.now a.at a.gates a.sum x (omega arith) c.mean_tenths-tenths.ensures c.requires.2 in
-    next_room point (tenths x) (next_left (whole x) (point ++ tenths x) first c.put_decimal-here.ensures)
-
-pub put_decimal-requires : goal.put_decimal-requires
-put_decimal-requires c =
-    let a = c.args in
-    let x = c.mean_tenths-tenths.result in
-    let first = at_whole a.out.now a.at a.gates a.sum x (omega arith) c.mean_tenths-tenths.ensures c.requires.2 in
-    let at_point = next_left (whole x) (point ++ tenths x) first c.put_decimal-here.ensures in
-    (next_left point (tenths x) at_point c.put_byte-here.ensures).room
 
 pub returns : goal.returns
 returns c =

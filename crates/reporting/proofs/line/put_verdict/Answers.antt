@@ -8,7 +8,7 @@ use Rattle.types.specs.declared.stage.Stage.TheVariants.{Open}
 use Rattle.job.specs.declared.job.Job.{Job}
 use Rattle.text.specs.Text.{decimal, spaced}
 use Rattle.reporting.specs.Lines.{open_text, verdict_text}
-use Rattle.text.proofs.FieldWriting.{Left, all_left, next_room, next_left}
+use Rattle.text.proofs.FieldWriting.{Left, all_left, next_left}
 use Rattle.reporting.proofs.line.put_verdict.Goals as goal
 
 -- the room for the text of a stage that the job is in
@@ -29,41 +29,7 @@ at_letter : (out : List ℕ) (at : ℕ) (j : Job) → at + length (verdict_text 
 unfolding open_text
 at_letter out at j h e = rw e (all_left out at (verdict_text Open j) (room out at j h e))
 
-pub put_letter-here-requires : goal.put_letter-here-requires
-put_letter-here-requires c =
-    let a = c.args in
-    next_room letter (number a.job) (at_letter a.out.now a.at a.job c.requires.1 c.in-Open.is)
-
-pub put_number-requires : goal.put_number-requires
-put_number-requires c =
-    let a = c.args in
-    (next_left letter (number a.job) (at_letter a.out.now a.at a.job c.requires.1 c.in-Open.is) c.put_letter-here.ensures).room
-
-pub put_gate-requires : goal.put_gate-requires
-put_gate-requires c =
-    let a = c.args in
-    rw c.vector_gate.ensures (c.requires.0, room a.out.now a.at a.job c.requires.1 c.in-Found.is)
-
-pub put_witness-requires : goal.put_witness-requires
-put_witness-requires c =
-    let a = c.args in
-    (c.requires.0, room a.out.now a.at a.job c.requires.1 c.in-Looped.is)
-
-pub put_witness-requires-in-Binate : goal.put_witness-requires-in-Binate
-put_witness-requires-in-Binate c =
-    let a = c.args in
-    (c.requires.0, room a.out.now a.at a.job c.requires.1 c.in-Binate.is)
-
 pub returns-in-Open : goal.returns-in-Open
 returns-in-Open c =
     let a = c.args in
     (next_left letter (number a.job) (at_letter a.out.now a.at a.job c.requires.1 c.in-Open.is) c.put_letter-here.ensures).done c.put_number.ensures
-
-pub returns-in-Found : goal.returns-in-Found
-returns-in-Found c = rw c.in-Found.is (rw c.vector_gate.ensures at c.put_gate.ensures)
-
-pub returns-in-Looped : goal.returns-in-Looped
-returns-in-Looped c = rw c.in-Looped.is c.put_witness.ensures
-
-pub returns-in-Binate : goal.returns-in-Binate
-returns-in-Binate c = rw c.in-Binate.is c.put_witness-in-Binate.ensures

@@ -10,7 +10,8 @@ use Rattle.job.specs.declared.job.Job.{Job}
 use Rattle.text.specs.Text.{decimal, spaced, line_feed}
 use Rattle.reporting.specs.Lines.{line_room, verdict_text, record_line}
 use Rattle.text.proofs.FieldWriting.{Left, all_left, next_room, next_left, line_done}
-use Rattle.reporting.proofs.RecordRoom.{JobFits, record_room, signed_fits_row}
+use Rattle.reporting.proofs.RecordRoom.{JobFits, record_room}
+use Rattle.notation.proofs.WeightLaws.{signed_fits_row}
 use Rattle.reporting.proofs.line.record_line.Goals as goal
 use Rattle.reporting.proofs.line.record_line.Goals.{Start}
 

@@ -1,18 +1,18 @@
 -- `write::put_rows` meets its contract. The loop's invariant: behind the list's length the pairs of the rows below `row` are written, and `here`
--- is the position behind them. The measure is the number of rows left. Assumes nothing.
-use mathlib.Core.Path.{◌≡◌, sym, ◌∙◌, ap}
+-- is the position behind them. Assumes nothing.
+use mathlib.Core.Path.{◌≡◌, sym}
 use mathlib.Core.List.{List, ◌++◌}
-use Prim.Native.Nat.{ℕ, ◌+◌, ◌≤◌}
+use Prim.Native.Nat.{ℕ, ◌+◌, ◌≤◌, ◌<◌}
 use native.Mathlib.Omega.{arith}
-use lib.ListN.{length, length-append}
-use borrow.Author.Rules.{rules}
+use lib.ListN.{length, get_or, take, length-append, length-take}
+use lib.Seq.{get_or-take}
 use Rattle.numbers.proofs.TestLaws.{all_at_most_at}
 use Rattle.table.specs.Witness.{count_limit}
 use Rattle.codec.specs.Number.{number_bytes}
 use Rattle.codec.specs.RowList.{filled_from, row_list_bytes}
 use Rattle.codec.proofs.PairLaws.{pairs_zero, filled_most}
 use Rattle.codec.specs.Written.{Room, Put}
-use Rattle.codec.proofs.WrittenLaws.{written_length, written_nil, written_room, written_next, next_room, next_written}
+use Rattle.codec.proofs.WrittenLaws.{written_nil, written_room, written_next, next_room, next_written}
 use Rattle.rowlists.proofs.RowParts.{pairs, pair_of, pairs_next, list_of_rows}
 use Rattle.rowlists.proofs.write.put_rows.Goals as goal
 use Rattle.rowlists.proofs.write.put_rows.Goals.{After-put_number-here, Start}
@@ -55,34 +55,40 @@ rest_room c =
 pub loop-row-init : goal.loop-row-init
 loop-row-init c =
     let call = c.put_number-here in
-    (search rules, rw pairs_zero (omega arith, sym (written_nil call.new.out call.result)))
+    rw pairs_zero (omega arith, sym (written_nil call.new.out call.result))
+
+-- the count of a row
+module _ (counts : List ℕ) (rows row : ℕ) (h : row < length (take rows counts)) where
+  below : row < rows
+  below = omega (arith, length-take rows counts)
+
+  count_is : get_or (take rows counts) row 0 ≡ get_or counts row 0
+  count_is = get_or-take rows counts row 0 below
 
 pub put_pair-here-requires : goal.put_pair-here-requires
 put_pair-here-requires c =
     let counts = c.args.counts.now in
     let rows = c.args.rows in
-    let row = c.loop-row.row in (
+    let row = c.loop-row.row in
+    let h = below counts rows row c.loop-row-test.true in
+    rw (count_is counts rows row c.loop-row-test.true) (
       omega arith,
       omega (arith, all_at_most_at count_limit counts c.requires.2 row),
-      next_room (pairs counts) (pair_of counts) (pairs_next counts) rows c.put_number-here.new.out c.put_number-here.result (rest_room (goal.at.put_pair-here-requires c).After-put_number-here) row (omega arith) c.loop-row.invariant.1,
+      next_room (pairs counts) (pair_of counts) (pairs_next counts) rows c.put_number-here.new.out c.put_number-here.result (rest_room (goal.at.put_pair-here-requires c).After-put_number-here) row h c.loop-row.invariant,
     )
 
 pub loop-row-preserved : goal.loop-row-preserved
 loop-row-preserved c =
     let counts = c.args.counts.now in
     let rows = c.args.rows in
-    let wrote = c.put_pair-here.ensures in (
-      omega arith,
-      next_written (pairs counts) (pair_of counts) (pairs_next counts) rows c.put_number-here.new.out c.put_number-here.result (rest_room (goal.at.loop-row-preserved c).After-put_number-here) c.loop-row.row (omega arith) c.loop-row.invariant.1 wrote,
-    )
+    let row = c.loop-row.row in
+    let wrote = rw (count_is counts rows row c.loop-row-test.true) at c.put_pair-here.ensures in
+    next_written (pairs counts) (pair_of counts) (pairs_next counts) rows c.put_number-here.new.out c.put_number-here.result (rest_room (goal.at.loop-row-preserved c).After-put_number-here) row (below counts rows row c.loop-row-test.true) c.loop-row.invariant wrote
 
 pub returns : goal.returns
 returns c =
     let a = c.args in
-    let end : c.loop-row.row ≡ a.rows = omega arith in
+    let end : c.loop-row.row ≡ a.rows = omega (arith, length-take a.rows a.counts.now) in
     let at = goal.at.returns c in
-    let all = written_next a.out.now 0 (first_bytes a.counts.now a.rows) (pairs a.counts.now a.rows) (all_room at.Start) (opened at.After-put_number-here) (rw end at c.loop-row.invariant.1) in
+    let all = written_next a.out.now 0 (first_bytes a.counts.now a.rows) (pairs a.counts.now a.rows) (all_room at.Start) (opened at.After-put_number-here) (rw end at c.loop-row.invariant) in
     rw (list at.Start) all
-
-pub shape_of-out : goal.shape_of-out
-shape_of-out c = ap length (returns c).1 ∙ written_length c.args.out.now 0 (row_list_bytes c.args.counts.now) (omega (arith, c.requires.3))

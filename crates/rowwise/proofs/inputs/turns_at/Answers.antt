@@ -28,9 +28,6 @@ partner c = partner_below 8 c.args.row c.args.place c.requires.0 (lacks c) c.req
 shifted : (c : Else-row-place-eq1) → 1 * 2 ^ c.args.place % 2 ^ 64 ≡ 2 ^ c.args.place
 shifted c = rw one-mul (mod-eq_of_lt (omega (arith, partner c)))
 
-pub overflow_add-partner : goal.overflow_add-partner
-overflow_add-partner c = rw (shifted c) (omega (arith, partner c))
-
 pub returns-then-row_bit-to : goal.returns-then-row_bit-to
 returns-then-row_bit-to c t v k =
     let a = c.args in

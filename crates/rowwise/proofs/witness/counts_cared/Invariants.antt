@@ -1,9 +1,8 @@
--- `witness::counts_cared` meets its contract. The loop's invariant: the rows below `row` are cared for or have no count. The measure is the number
--- of rows left. Assumes nothing.
+-- `witness::counts_cared` meets its contract. The loop's invariant: the rows below `row` are cared for or have no count. Assumes nothing.
 use mathlib.Core.Path.{◌≡◌, ap}
 use mathlib.Core.Bool.{Bool, true, false, ◌||◌}
 use mathlib.Core.List.{List}
-use Prim.Native.Nat.{ℕ, ◌-◌, ◌≤◌, ◌<◌}
+use Prim.Native.Nat.{ℕ, ◌<◌}
 use lib.Dec.{eqb}
 use Rattle.numbers.specs.Tests.{all_below}
 use Rattle.numbers.proofs.TestLaws.{all_below_from, all_below_fails}
@@ -30,7 +29,4 @@ module _ (t : Table) (counts : List ℕ) where
   cared_whole every = cared_all (all_below_from (rows t) allowed (λ r h. ap (λ (b : Bool). b || eqb (count_of counts r) 0) (every r h)))
 
 abbrev pub invariant-loop-row : goal.invariant-loop-row
-invariant-loop-row l = (l.row ≤ l.rows) × (all_below l.row (allowed l.table l.counts) ≡ true)
-
-abbrev pub decreases-loop-row : goal.decreases-loop-row
-decreases-loop-row l = l.rows - l.row
+invariant-loop-row l = all_below l.row (allowed l.table l.fn.counts) ≡ true

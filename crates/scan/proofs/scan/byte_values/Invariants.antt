@@ -1,12 +1,8 @@
--- `scan::byte_values` meets its contract. The loop's invariant: the rows of the bytes before `byte` have their values. The measure is the
--- number of bytes left. Assumes nothing.
+-- `scan::byte_values` meets its contract. The loop's invariant: the rows of the bytes before `byte` have their values. Assumes nothing.
 use mathlib.Core.Path.{◌≡◌}
-use Prim.Native.Nat.{◌*◌, ◌-◌, ◌≤◌}
+use Prim.Native.Nat.{◌*◌}
 use Rattle.scan.specs.Scan.{values_below}
 use Rattle.scan.proofs.scan.byte_values.Given as goal
 
 abbrev pub invariant-loop-byte : goal.invariant-loop-byte
-invariant-loop-byte l = (l.byte ≤ l.count) × (l.values ≡ values_below (8 * l.byte) l.bytes)
-
-abbrev pub decreases-loop-byte : goal.decreases-loop-byte
-decreases-loop-byte l = l.count - l.byte
+invariant-loop-byte l = l.values ≡ values_below (8 * l.byte) l.bytes

@@ -1,119 +1,79 @@
 -- `scan::search_block` meets its contract. Assumes nothing.
-use mathlib.Core.Path.{◌≡◌, refl, subst, sym, ◌∙◌, ap, ap₂}
-use mathlib.Core.List.{List}
-use Prim.Native.Nat.{ℕ, ◌+◌, ◌^◌, ◌<◌}
+use Rattle.std.proofs.Common.{◌≡◌, Bool, ℕ, ◌+◌, ◌<◌, get_or, ℤ, pos, nat_abs, ◌+ℤ◌, sym, ◌∙◌, ap₂, arith}
 use native.Mathlib.Nat.{add_assoc}
-use native.Mathlib.Omega.{arith}
-use lib.ListN.{get_or, length-set}
-use lib.IntN.{ℤ, pos, nat_abs, ◌+ℤ◌}
 use mir.Syntax.{w32, w64}
 use mir.Val.{to_z, of_z, SFits}
 use mir.Facts.{to_z-of_z}
-use Rattle.table.proofs.InputLaws.{at_somewhere}
 use Rattle.numbers.proofs.FirstLaws.{first_at, first_fails}
 use Rattle.numbers.proofs.Int.{nat_abs_parts, size_add}
-use Rattle.numbers.proofs.Widths.{size_fits, wide_fits, wide_back}
-use Rattle.table.specs.Inputs.{lowest_of}
+use Rattle.numbers.proofs.Widths.{size_fits, wide_back}
 use Rattle.scan.specs.Scan.{fails_at, doubled}
 use Rattle.scan.proofs.ScanLaws.{Passed, passed_more, doubled_low, doubled_high, fails_at_test}
 use Rattle.scan.proofs.scan.search_block.Goals as goal
+use Rattle.scan.proofs.scan.search_block.Goals.{At-loop-at, In-loop-at, After-fails_in, Start}
+
+-- a distance that came in and the weight, each read from its bits, add up to their sum, which fits
+adds : {x : ℤ} (from weight : ℤ) → x ≡ from → nat_abs from + nat_abs weight < 2147483648
+    → (to_z w32 (of_z w32 x) +ℤ to_z w32 (of_z w32 weight) ≡ from +ℤ weight) × SFits w32 (to_z w32 (of_z w32 x) +ℤ to_z w32 (of_z w32 weight))
+adds {x} from weight e small =
+    let fits : SFits w32 from = size_fits (omega (arith, nat_abs_parts from)) in
+    let added : SFits w32 weight = size_fits (omega (arith, nat_abs_parts weight)) in
+    let read : to_z w32 (of_z w32 x) +ℤ to_z w32 (of_z w32 weight) ≡ from +ℤ weight = rw e (ap₂ ◌+ℤ◌ (to_z-of_z fits) (to_z-of_z added)) in
+    (read, rw read (size_fits (omega (arith, size_add from weight, nat_abs_parts from, nat_abs_parts weight))))
+
+-- the rows' distances, and whether they fail
+abbrev away : Start → ℕ → ℤ
+away c = doubled c.args.half c.args.weight c.args.distances.now
+
+abbrev fails : Start → ℕ → Bool
+fails c = fails_at c.args.cares.now c.args.values.now (away c)
+
+passed : (c : At-loop-at) → Passed c.args.cares.now c.args.values.now (away c.before) c.args.half (c.args.half + c.loop-at.at) c.loop-at.distances
+passed c = c.loop-at.invariant _ (sym (to_z-of_z c.ranges.weight))
+
+-- the distance that the code stores fits, and is the row's
+abbrev sum : In-loop-at → ℤ
+sum c = to_z w32 (of_z w32 (get_or c.loop-at.distances c.loop-at.at (pos 0))) +ℤ to_z w32 (of_z w32 c.args.weight)
+
+stored : (c : In-loop-at) → (sum c ≡ away c.before.before (c.args.half + c.loop-at.at)) × SFits w32 (sum c)
+stored c =
+    let a = c.args in
+    let at = c.loop-at.at in
+    let kept = (passed c.before).holds at (omega arith) ∙ doubled_low a.half a.weight a.distances.now at (omega arith) in
+    let both = adds _ a.weight kept (c.requires.sums_fit at (omega arith)) in
+    (both.0 ∙ sym (doubled_high a.half a.weight a.distances.now at), both.1)
 
 pub loop-at-init : goal.loop-at-init
-loop-at-init c = (
-  omega arith,
-  refl,
-  record {
-    holds = λ r l. sym (doubled_low _ _ _ r (omega arith));
-    none_fails = λ r g l. absurd (omega arith);
-  },
-)
-
--- the rows passed are the same by the weight as the code reads it
-passed_read : (cares values : List ℕ) (half : ℕ) (weight : ℤ) (old : List ℤ) (m : ℕ) (list : List ℤ) → SFits w32 weight
-    → Passed cares values (doubled half (to_z w32 (of_z w32 weight)) old) half m list
-    → Passed cares values (doubled half weight old) half m list
-passed_read cares values half weight old m list fits p =
-    subst (λ (w : ℤ). Passed cares values (doubled half w old) half m list) (to_z-of_z fits) p
-
-passed_back : (cares values : List ℕ) (half : ℕ) (weight : ℤ) (old : List ℤ) (m : ℕ) (list : List ℤ) → SFits w32 weight
-    → Passed cares values (doubled half weight old) half m list
-    → Passed cares values (doubled half (to_z w32 (of_z w32 weight)) old) half m list
-passed_back cares values half weight old m list fits p =
-    subst (λ (w : ℤ). Passed cares values (doubled half w old) half m list) (sym (to_z-of_z fits)) p
-
--- a pass, in which the distance of the row `half` below is read and the weight is added
-module _ (cares values : List ℕ) (half : ℕ) (weight : ℤ) (old : List ℤ) (fits : SFits w32 weight)
-    (room : (r : ℕ) → r < half → nat_abs (get_or old r (pos 0)) + nat_abs weight < 2 ^ 31)
-    (list : List ℤ) (at : ℕ) (below : at < half)
-    (passed : Passed cares values (doubled half weight old) half (half + at) list)
-  where
-    -- the rows below `half` have the distances that came in
-    below_kept : get_or list at (pos 0) ≡ get_or old at (pos 0)
-    below_kept = passed.holds at (omega arith) ∙ doubled_low half weight old at (omega arith)
-
-    below_fits : SFits w32 (get_or list at (pos 0))
-    below_fits = rw below_kept (size_fits (omega (arith, nat_abs_parts (get_or old at (pos 0)), room at below)))
-
-    -- the numbers that the code adds
-    read_is : to_z w32 (of_z w32 (get_or list at (pos 0))) +ℤ to_z w32 (of_z w32 weight) ≡ get_or old at (pos 0) +ℤ weight
-    read_is = ap₂ ◌+ℤ◌ (to_z-of_z below_fits ∙ below_kept) (to_z-of_z fits)
-
-    -- the sum fits, and is the row's distance
-    sum_fits : SFits w32 (to_z w32 (of_z w32 (get_or list at (pos 0))) +ℤ to_z w32 (of_z w32 weight))
-    sum_fits =
-        let from = get_or old at (pos 0) in
-        rw read_is (size_fits (omega (arith, size_add from weight, nat_abs_parts from, nat_abs_parts weight, room at below)))
-
-    sum_is : to_z w32 (of_z w32 (get_or list at (pos 0))) +ℤ to_z w32 (of_z w32 weight) ≡ doubled half weight old (half + at)
-    sum_is = read_is ∙ sym (doubled_high half weight old at)
+loop-at-init c = λ w e. record {
+  holds = λ r l. sym (doubled_low _ _ _ r (omega arith));
+  none_fails = λ r g l. absurd (omega arith);
+}
 
 pub overflow_add-distance : goal.overflow_add-distance
-overflow_add-distance c =
-    let a = c.args in
-    sum_fits a.cares.now a.values.now a.half a.weight a.distances.now c.ranges.weight c.requires.sums_fit c.loop-at.distances c.loop-at.at
-    c.loop-at-test.true (passed_read _ _ _ _ _ _ _ c.ranges.weight c.loop-at.invariant.2)
+overflow_add-distance c = (stored (goal.at.overflow_add-distance c).In-loop-at).1
 
-pub overflow_cast-distance : goal.overflow_cast-distance
-overflow_cast-distance c = wide_fits tt (overflow_add-distance c)
-
-pub returns-then-fails_in : goal.returns-then-fails_in
-returns-then-fails_in c =
-    let a = c.args in
-    let passed : Passed a.cares.now a.values.now (doubled a.half a.weight a.distances.now) a.half (a.half + c.loop-at.at) c.loop-at.distances = passed_read _ _ _ _ _ _ _ c.ranges.weight c.loop-at.invariant.2 in
-    let fits = sum_fits a.cares.now a.values.now a.half a.weight a.distances.now c.ranges.weight c.requires.sums_fit c.loop-at.distances c.loop-at.at c.loop-at-test.true passed in
-    let sum = sum_is a.cares.now a.values.now a.half a.weight a.distances.now c.ranges.weight c.requires.sums_fit c.loop-at.distances c.loop-at.at c.loop-at-test.true passed in
-    let tested = fails_at_test a.cares.now a.values.now (doubled a.half a.weight a.distances.now) _ c.fails_in.ensures (wide_back w64 tt fits ∙ sum) in
+pub returns-then-fails_in-clause-value : goal.returns-then-fails_in-clause-value
+returns-then-fails_in-clause-value c =
+    let at = goal.at.returns-then-fails_in-clause-value c in
+    let (is, fits) = stored at.In-loop-at in
+    sym
+    (first_at (fails at.Start) c.args.half c.args.half _
     record {
-      value = ap lowest_of (sym (first_at (fails_at a.cares.now a.values.now (doubled a.half a.weight a.distances.now)) a.half a.half (a.half + c.loop-at.at)
-          record {
-            start = omega arith;
-            inside = omega arith;
-            passes = sym tested ∙ c.if-fails_in.true;
-            before = passed.none_fails;
-          }));
-      holds = λ e. absurd (at_somewhere e);
-    }
+      start = omega arith;
+      inside = omega arith;
+      passes = sym (fails_at_test _ _ _ _ c.fails_in.ensures (wide_back w64 tt fits ∙ is)) ∙ c.if-fails_in.true;
+      before = (passed at.At-loop-at).none_fails;
+    })
 
 pub loop-at-preserved : goal.loop-at-preserved
 loop-at-preserved c =
-    let a = c.args in
-    let at = c.loop-at.at in
-    let passed : Passed a.cares.now a.values.now (doubled a.half a.weight a.distances.now) a.half (a.half + at) c.loop-at.distances = passed_read _ _ _ _ _ _ _ c.ranges.weight c.loop-at.invariant.2 in
-    let fits = sum_fits a.cares.now a.values.now a.half a.weight a.distances.now c.ranges.weight c.requires.sums_fit c.loop-at.distances at c.loop-at-test.true passed in
-    let sum = sum_is a.cares.now a.values.now a.half a.weight a.distances.now c.ranges.weight c.requires.sums_fit c.loop-at.distances at c.loop-at-test.true passed in
-    let tested = fails_at_test a.cares.now a.values.now (doubled a.half a.weight a.distances.now) _ c.fails_in.ensures (wide_back w64 tt fits ∙ sum) in (
-      omega arith,
-      simp length-set c.loop-at.invariant.1,
-      rw (← add_assoc a.half at 1)
-          (passed_back _ _ _ _ a.distances.now _ _ c.ranges.weight (passed_more a.cares.now a.values.now (doubled a.half a.weight a.distances.now) a.half (a.half + at) c.loop-at.distances _
-          (omega arith) (to_z-of_z fits ∙ sum) (sym tested ∙ c.if-fails_in.false) passed)),
-    )
+    let at = goal.at.loop-at-preserved c in
+    let (is, fits) = stored at.In-loop-at in
+    let tested = fails_at_test _ _ (away at.Start) _ c.fails_in.ensures (wide_back w64 tt fits ∙ is) in
+    λ w e. rw (e ∙ to_z-of_z c.ranges.weight, ← add_assoc c.args.half c.loop-at.at 1)
+    (passed_more _ _ _ _ _ _ _ (omega arith) (to_z-of_z fits ∙ is) (sym tested ∙ c.if-fails_in.false) (passed at.At-loop-at))
 
-pub returns : goal.returns
-returns c =
-    let a = c.args in
-    let passed : Passed a.cares.now a.values.now (doubled a.half a.weight a.distances.now) a.half (a.half + c.loop-at.at) c.loop-at.distances = passed_read _ _ _ _ _ _ _ c.ranges.weight c.loop-at.invariant.2 in
-    record {
-      value = ap lowest_of (sym (first_fails (fails_at a.cares.now a.values.now (doubled a.half a.weight a.distances.now)) a.half a.half (λ r g l. passed.none_fails r g (omega arith))));
-      holds = λ e r l. passed.holds r (omega arith);
-    }
+pub returns-clause-value : goal.returns-clause-value
+returns-clause-value c =
+    let at = goal.at.returns-clause-value c in
+    sym (first_fails (fails at.Start) _ _ (λ r g l. (passed at.At-loop-at).none_fails r g (omega arith)))

@@ -1,5 +1,4 @@
--- `scan::store_byte` meets its contract. The loop's invariant: the rows before bit `bit` of the byte have their values. The measure is the
--- number of bits left. Assumes nothing.
+-- `scan::store_byte` meets its contract. The loop's invariant: the rows before bit `bit` of the byte have their values. Assumes nothing.
 use mathlib.Core.Path.{◌∙◌, ap, ap₂}
 use mathlib.Core.Bool.{Bool}
 use mathlib.Core.List.{List}
@@ -20,9 +19,7 @@ pub loop-bit-preserved : goal.loop-bit-preserved
 loop-bit-preserved c =
     let at_head = c.loop-bit in
     let a = c.args in
-    let row = 8 * a.at + at_head.bit in (
-      omega arith,
-      ap₂ (λ (l : List Bool) (b : Bool). set l row b) at_head.invariant.1 (byte_bit a.bytes.now a.at at_head.bit (omega arith))
-          ∙ values_more a.bytes.now row (omega arith)
-          ∙ ap (λ (m : ℕ). values_below m a.bytes.now) (add_assoc (8 * a.at) at_head.bit 1),
-    )
+    let row = 8 * a.at + at_head.bit in
+    ap₂ (λ (l : List Bool) (b : Bool). set l row b) at_head.invariant (byte_bit a.bytes.now a.at at_head.bit (omega arith))
+    ∙ values_more a.bytes.now row (omega arith)
+    ∙ ap (λ (m : ℕ). values_below m a.bytes.now) (add_assoc (8 * a.at) at_head.bit 1)

@@ -1,12 +1,8 @@
--- `scan::store_byte` meets its contract. The loop's invariant: the rows before bit `bit` of the byte have their values. The measure is the
--- number of bits left. Assumes nothing.
+-- `scan::store_byte` meets its contract. The loop's invariant: the rows before bit `bit` of the byte have their values. Assumes nothing.
 use mathlib.Core.Path.{◌≡◌}
-use Prim.Native.Nat.{◌+◌, ◌*◌, ◌-◌, ◌≤◌}
+use Prim.Native.Nat.{◌+◌, ◌*◌}
 use Rattle.scan.specs.Scan.{values_below}
 use Rattle.scan.proofs.scan.store_byte.Given as goal
 
 abbrev pub invariant-loop-bit : goal.invariant-loop-bit
-invariant-loop-bit l = (l.bit ≤ 8) × (l.values ≡ values_below (8 * l.at + l.bit) l.bytes)
-
-abbrev pub decreases-loop-bit : goal.decreases-loop-bit
-decreases-loop-bit l = 8 - l.bit
+invariant-loop-bit l = l.values ≡ values_below (8 * l.at + l.bit) l.bytes

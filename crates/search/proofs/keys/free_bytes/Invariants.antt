@@ -1,13 +1,10 @@
--- `keys::free_bytes` meets its contract. The loop's invariant: the bytes below `at` are stored. The measure is the number of bytes left.
+-- `keys::free_bytes` meets its contract. The loop's invariant: the bytes below the index are turned over, and the others are as they came.
 -- Assumes nothing.
 use mathlib.Core.Path.{◌≡◌}
-use Prim.Native.Nat.{◌-◌, ◌^◌, ◌≤◌}
-use lib.ListN.{get_or, replicate}
+use Prim.Native.Nat.{◌-◌, ◌^◌}
+use lib.ListN.{get_or}
 use Rattle.numbers.proofs.TabulateLaws.{filled}
 use Rattle.search.proofs.keys.free_bytes.Given as goal
 
-abbrev pub invariant-loop-at : goal.invariant-loop-at
-invariant-loop-at l = (l.at ≤ l.count) × (l.frees ≡ filled (λ i. 2 ^ 8 - 1 - get_or l.table.cares i 0) (replicate 32 0) l.at)
-
-abbrev pub decreases-loop-at : goal.decreases-loop-at
-decreases-loop-at l = l.count - l.at
+abbrev pub invariant-loop-byte : goal.invariant-loop-byte
+invariant-loop-byte l = l.byte-items ≡ filled (λ i. 2 ^ 8 - 1 - get_or l.fn.table.cares i 0) l.fn.table.cares l.byte-index

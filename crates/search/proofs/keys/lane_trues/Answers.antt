@@ -2,7 +2,6 @@
 use mathlib.Core.Path.{◌∙◌}
 use Prim.Native.Nat.{◌%◌}
 use native.Mathlib.Nat.{mod-lt}
-use borrow.Author.Rules.{rules}
 use lib.Pow.{pow_pos}
 use Rattle.table.specs.Table.{rows}
 use Rattle.lanes.specs.Blocks.{lane_cared, lane_value}

@@ -7,12 +7,12 @@ use Prim.Native.Nat.{ℕ, ◌+◌, ◌-◌, ◌%◌, ◌≤◌, ◌<◌}
 use native.Mathlib.Nat.{mod-eq_of_lt, mod-eq-sub-mod}
 use native.Mathlib.Decide.{dec_le}
 use native.Mathlib.Omega.{arith}
-use lib.ListN.{length, get_or, set, length-set}
+use lib.ListN.{length, get_or, set}
 use lib.Seq.{get_or-set_same, get_or-set_other}
 use Rattle.search.proofs.keys.repeat_rows.Goals as goal
 
 pub loop-row-init : goal.loop-row-init
-loop-row-init c = (omega arith, c.requires.1, λ q l k. sym (ap (λ (p : ℕ). get_or c.args.bits.now p false) (mod-eq_of_lt l)), λ q l. refl)
+loop-row-init c = (λ q l k. sym (ap (λ (p : ℕ). get_or c.args.bits.now p false) (mod-eq_of_lt l)), λ q l. refl)
 
 -- the row that was stored has the bit of the row that it repeats, as those below it have
 repeated : (bits old : List Bool) (rows row : ℕ) → 0 < rows → rows ≤ row → row < length bits
@@ -30,11 +30,6 @@ repeated bits old rows row some above within below q l k (no before) =
 pub loop-row-preserved : goal.loop-row-preserved
 loop-row-preserved c =
     let head = c.loop-row in (
-      omega arith,
-      simp length-set head.invariant.1,
-      λ q l k. repeated head.bits c.args.bits.now c.args.rows head.row c.requires.0 head.invariant.0 (omega arith) head.invariant.2 q l k (dec_le head.row q),
-      λ q l. get_or-set_other head.bits head.row q _ false (λ same. omega arith) ∙ head.invariant.3 q l,
+      λ q l k. repeated head.bits c.args.bits.now c.args.rows head.row c.requires.0 (omega arith) (omega arith) head.invariant.0 q l k (dec_le head.row q),
+      λ q l. get_or-set_other head.bits head.row q _ false (λ same. omega arith) ∙ head.invariant.1 q l,
     )
-
-pub returns : goal.returns
-returns c = record { repeated = λ q l. c.loop-row.invariant.2 q (omega arith) l; kept = c.loop-row.invariant.3 }

@@ -1,14 +1,10 @@
--- `keys::store_keys` meets its contract. The loop's invariant: `keys` holds the keys of the rows below `row`. The measure is what is left of
--- the rows. Assumes nothing.
+-- `keys::store_keys` meets its contract. The loop's invariant: `keys` holds what it is to hold of the rows below `row`. Assumes nothing.
+use mathlib.Core.Path.{◌≡◌}
 use mathlib.Core.Bool.{false}
-use Prim.Native.Nat.{◌-◌}
-use lib.ListN.{get_or}
-use Rattle.search.proofs.KeyLaws.{key_by, Stored}
+use lib.ListN.{length, get_or}
+use Rattle.numbers.specs.Tabulate.{Holds}
+use Rattle.search.proofs.KeyLaws.{key_by}
 use Rattle.search.proofs.keys.store_keys.Given as goal
 
 abbrev pub invariant-loop-row : goal.invariant-loop-row
-invariant-loop-row l =
-    Stored (λ r. key_by (get_or l.trues r false) r) l.rows l.row l.keys
-
-abbrev pub decreases-loop-row : goal.decreases-loop-row
-decreases-loop-row l = l.rows - l.row
+invariant-loop-row l = (length l.keys ≡ 256) × Holds (λ r. key_by (get_or l.trues r false) r) l.row l.keys

@@ -1,5 +1,4 @@
 -- `keys::store_rows` meets its contract: where no byte of the care bits has a bit that is 0, every row is cared for. Assumes nothing.
-use borrow.Author.Rules.{rules}
 use Rattle.search.proofs.keys.store_rows.Goals as goal
 
 pub store_trues-requires : goal.store_trues-requires

@@ -1,21 +1,21 @@
--- `keys::true_bytes` meets its contract. The loop's invariant: the bytes below `at` are stored. The measure is the number of bytes left.
--- Assumes nothing.
-use mathlib.Core.Path.{◌≡◌, refl}
-use Prim.Native.Nat.{◌<◌}
+-- `keys::true_bytes` meets its contract. Assumes nothing.
+use mathlib.Core.Path.{ap}
+use Prim.Native.Nat.{ℕ}
 use native.Mathlib.Omega.{arith}
 use borrow.Author.Rules.{rules}
-use lib.ListN.{get_or, replicate}
+use lib.Bits.{bit_and}
+use lib.ListN.{get_or}
 use mir.Syntax.{w8}
 use mir.Val.{Fits}
 use Rattle.numbers.proofs.TabulateLaws.{filled_none, filled_more}
-use Rattle.table.proofs.TableLaws.{bytes_le}
+use Rattle.table.proofs.TableLaws.{rows_le}
 use Rattle.table.proofs.RowLaws.{ByteArray}
-use Rattle.search.proofs.BitLaws.{and_at}
+use Rattle.search.proofs.BitLaws.{unmade, and_at}
 use Rattle.search.proofs.keys.true_bytes.Goals as goal
-use Rattle.search.proofs.keys.true_bytes.Goals.{In-loop-at, Start}
+use Rattle.search.proofs.keys.true_bytes.Goals.{Start}
 
 pub loop-at-init : goal.loop-at-init
-loop-at-init c = (omega arith, filled_none _ _)
+loop-at-init c = filled_none _ _
 
 cares_of : (c : Start) → ByteArray c.args.table.cares
 cares_of c = record {
@@ -29,23 +29,15 @@ values_of c = record {
   fits = λ i l. let byte : Fits w8 (get_or c.args.table.bytes i 0) = search rules in byte.fits;
 }
 
-inside : (c : In-loop-at) → c.loop-at.at < 32
-inside c = omega (arith, c.byte_count-count.ensures, bytes_le c.requires)
-
 pub loop-at-preserved : goal.loop-at-preserved
-loop-at-preserved c = (omega arith, filled_more _ (replicate 32 0) c.loop-at.at (inside (goal.at.loop-at-preserved c).In-loop-at) c.loop-at.invariant.1 refl)
+loop-at-preserved c =
+    let at = c.loop-at.at in
+    let cares = c.args.table.cares in
+    filled_more _ cares at (omega (arith, (cares_of (goal.at.loop-at-preserved c).Start).size)) c.loop-at.invariant
+    (ap (λ (x : ℕ). bit_and x (get_or c.args.table.bytes at 0)) (unmade _ cares at c.loop-at.invariant))
 
 pub returns : goal.returns
-returns c =
-    let count = c.byte_count-count.ensures in
-    let last : c.loop-at.at ≡ c.byte_count-count.result = omega arith in
-    λ r h. and_at (replicate 32 0) c.loop-at.at (cares_of (goal.at.returns c).Start) (values_of (goal.at.returns c).Start) (omega (arith, count, bytes_le c.requires)) c.loop-at.invariant.1 r (omega (arith, count))
-
-pub bounds-table-at : goal.bounds-table-at
-bounds-table-at c = inside c
-
-pub bounds-table-at-in-loop-at : goal.bounds-table-at-in-loop-at
-bounds-table-at-in-loop-at c = inside (goal.at.bounds-table-at-in-loop-at c).In-loop-at
-
-pub bounds-trues-at : goal.bounds-trues-at
-bounds-trues-at c = inside (goal.at.bounds-trues-at c).In-loop-at
+returns c row l =
+    let few = rows_le {n = c.args.table.n} c.requires in
+    let start = (goal.at.returns c).Start in
+    and_at c.args.table.cares c.loop-at.at (cares_of start) (values_of start) (omega arith) c.loop-at.invariant row (omega arith)

@@ -1,5 +1,4 @@
--- `search::least_key` meets its contract. The loop's invariant: `least` is the least key of the rows below `row`. The measure is what is
--- left of the block. Assumes nothing.
+-- `search::least_key` meets its contract. Assumes nothing.
 use mathlib.Core.Path.{◌≡◌, sym, ◌∙◌, ap}
 use Prim.Native.Nat.{◌+◌, ◌^◌, ◌<◌}
 use native.Mathlib.Omega.{arith}
@@ -13,12 +12,11 @@ use mir.Facts.{to_z-of_z}
 use Rattle.numbers.proofs.Int.{nat_abs_parts, up, dn, parts_neg, size_add}
 use Rattle.numbers.proofs.Widths.{size_fits}
 use Rattle.search.specs.Keys.{flipped_by, block_key}
-use Rattle.search.proofs.KeyLaws.{key_bits, least_none, least_taken, least_kept}
+use Rattle.search.proofs.KeyLaws.{key_bits, least_none, least_more}
 use Rattle.search.proofs.search.least_key.Goals as goal
-use Rattle.search.proofs.search.least_key.Goals.{then-key-least, else-key-least}
 
 pub loop-row-init : goal.loop-row-init
-loop-row-init c = (omega arith, sym (least_none _))
+loop-row-init c = sym (least_none _)
 
 -- ---- a pass: the sum of the row, that of the higher inputs, and what is taken from them
 module _ (own high one : ℤ) (own_fits : SFits w16 own) (high_fits : SFits w16 high) (one_fits : SFits w16 one)
@@ -58,24 +56,6 @@ module _ (own high one : ℤ) (own_fits : SFits w16 own) (high_fits : SFits w16 
         ∙ ap (λ (z : ℤ). flipped_by z key) difference
         ∙ ap (λ (z : ℤ). flipped_by (own +ℤ z -ℤ one) key) (sym (to_z-of_z {w = w16} {z = high} high_fits))
 
-pub overflow_add-key : goal.overflow_add-key
-overflow_add-key c =
-    let row = c.loop-row.row in
-    let own = get_or c.args.sums.now row (pos 0) in
-    let one = get_or c.args.ones.now row (pos 0) in
-    let own_fits : SFits w16 own = search rules in
-    let one_fits : SFits w16 one = search rules in
-    added_fits own c.args.high one own_fits c.ranges.high one_fits (c.requires.room row (omega arith))
-
-pub overflow_sub-key : goal.overflow_sub-key
-overflow_sub-key c =
-    let row = c.loop-row.row in
-    let own = get_or c.args.sums.now row (pos 0) in
-    let one = get_or c.args.ones.now row (pos 0) in
-    let own_fits : SFits w16 own = search rules in
-    let one_fits : SFits w16 one = search rules in
-    less_fits own c.args.high one own_fits c.ranges.high one_fits (c.requires.room row (omega arith))
-
 pub loop-row-preserved : goal.loop-row-preserved
 unfolding block_key
 loop-row-preserved c =
@@ -86,17 +66,6 @@ loop-row-preserved c =
     let own_fits : SFits w16 own = search rules in
     let one_fits : SFits w16 one = search rules in
     let key_fits : SFits w16 key = search rules in
-    let so_far = c.loop-row.invariant.1 in
-    let next = key_read own c.args.high one own_fits c.ranges.high one_fits (c.requires.room row (omega arith)) key key_fits in (
-      omega arith,
-      elim c.if-key-least.branch [
-        | then-key-least w ↦ w.least-is ∙ least_taken _ _ so_far next w.if-key-least.true
-        | else-key-least w ↦ w.least-is ∙ least_kept _ _ so_far next w.if-key-least.false
-      ],
-    )
-
-pub returns : goal.returns
-returns c =
-    let at_end_lem = c.loop-row in
-    let all : at_end_lem.row ≡ 32 = omega arith in
-    rw (to_z-of_z c.ranges.high) at (rw all at at_end_lem.invariant.1)
+    let next = key_read own c.args.high one own_fits c.ranges.high one_fits (c.requires.room row (omega arith)) key key_fits in
+    let least_fits : SFits w16 c.min-least.result = record { sfits = c.min-least.type_inv } in
+    to_z-of_z least_fits ∙ c.min-least.ensures.value ∙ least_more row _ c.loop-row.invariant next

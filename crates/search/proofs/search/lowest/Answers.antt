@@ -1,10 +1,10 @@
--- `search::lowest` meets its contract. The loop's invariant: the least key of each block below `block` is not negative. The measure is what
--- is left of the blocks. Assumes nothing.
+-- `search::lowest` meets its contract. Assumes nothing.
 use mathlib.Core.Path.{◌≡◌, sym, ◌∙◌, ap}
 use mathlib.Core.Bool.{true}
 use mathlib.Core.List.{List}
 use Prim.Native.Nat.{ℕ, ◌+◌, ◌*◌, ◌-◌, ◌≤◌, ◌<◌}
 use native.Mathlib.Omega.{arith}
+use Rattle.std.specs.Prelude.{Some}
 use borrow.Author.Rules.{rules}
 use borrow.Author.Count.{below_more}
 use lib.Pow.{pow_pos}
@@ -19,7 +19,7 @@ use Rattle.numbers.specs.Tabulate.{Holds}
 use Rattle.lanes.specs.Blocks.{blocks_of, lane_rows}
 use Rattle.lanes.specs.Sums.{Narrow}
 use Rattle.search.specs.Keys.{one_of, key_of, least_below, block_key}
-use Rattle.search.proofs.BlockLaws.{blocks_le}
+use Rattle.lanes.proofs.WeightLaws.{blocks_le}
 use Rattle.search.proofs.SearchLaws.{part, length_part, part_holds, block_room, least_at, NoneNegative, Passed, Answers, block_found, blocks_passed, nothing_found}
 use Rattle.search.proofs.search.lowest.Goals as goal
 
@@ -46,7 +46,7 @@ module _ (t : Table) (sums ones keys : List ℤ) (table : (t.n ≤ 8) × Holds (
     found : (h code : ℕ) (x : ℤ) → h < blocks_of t.n → NoneNegative sums ones keys h → x ≡ least_at sums ones keys h
         → lt_z x (pos 0) ≡ true
         → pos code ≡ x +ℤ pos 32768
-        → Answers t sums code
+        → Answers t sums (Some code)
     found h code x inside f is e known =
         block_found t sums ones keys table.0 table.1 table.2 narrow.0 h inside (passed h (omega arith) f) code (rw is at e) (rw is at known)
 
@@ -55,12 +55,6 @@ module _ (t : Table) (sums ones keys : List ℤ) (table : (t.n ≤ 8) × Holds (
     first_is known = known ∙ sym (ap (λ (high : ℤ). least_below 32 (block_key sums high (part 0 ones) (part 0 keys))) narrow.1)
 
 -- ---- the first block
-pub slice_bounds-least_key-end : goal.slice_bounds-least_key-end
-slice_bounds-least_key-end c = sym (length_part 0 c.args.ones.now (omega arith) c.told-ones)
-
-pub slice_bounds-least_key-end-2 : goal.slice_bounds-least_key-end-2
-slice_bounds-least_key-end-2 c = sym (length_part 0 c.args.keys.now (omega arith) c.told-keys)
-
 pub least_key-first-requires : goal.least_key-first-requires
 least_key-first-requires c =
     let a = c.args in
@@ -85,12 +79,8 @@ loop-block-init c =
     let a = c.args in
     let r = c.requires in
     let fits : SFits w16 c.least_key-first.result = record { sfits = c.least_key-first.type_inv } in
-    let known = first_is a.table a.sums.now a.ones.now a.keys.now r.n_bound r.narrow (to_z-of_z fits ∙ c.least_key-first.ensures) in (
-      omega (arith, c.block_count-blocks.ensures, blocks_le a.table.n r.n_bound.0),
-      omega arith,
-      omega (arith, c.block_count-blocks.ensures, pow_pos (a.table.n - 5)),
-      λ h l. let zero : h ≡ 0 = omega arith in rw (zero, ← known) c.if-first-lt0.false,
-    )
+    let known = first_is a.table a.sums.now a.ones.now a.keys.now r.n_bound r.narrow (to_z-of_z fits ∙ c.least_key-first.ensures) in
+    λ h l. let zero : h ≡ 0 = omega arith in rw (zero, ← known) c.if-first-lt0.false
 
 -- ---- the others
 -- a block is as long as another
@@ -103,7 +93,7 @@ least_key-least-requires c =
     let r = c.requires in
     let block = c.loop-block.block in
     let higher : SFits w16 (get_or a.sums.now (32 + block) (pos 0)) = search rules in
-    let inside : block < blocks_of a.table.n = omega (arith, c.block_count-blocks.ensures) in
+    let inside : block < blocks_of a.table.n = omega (arith, c.block_count-block-end.ensures) in
     rw (part_size block, to_z-of_z higher)
     (record {
       ones_len = block_size a.table a.sums.now a.ones.now a.keys.now r.n_bound r.narrow block inside c.told-ones c.told-keys;
@@ -116,25 +106,24 @@ returns-then-least-lt0 c =
     let r = c.requires in
     let block = c.loop-block.block in
     let higher : SFits w16 (get_or a.sums.now (32 + block) (pos 0)) = search rules in
-    let inside : block < blocks_of a.table.n = omega (arith, c.block_count-blocks.ensures) in
+    let inside : block < blocks_of a.table.n = omega (arith, c.block_count-block-end.ensures) in
     let fits : SFits w16 c.least_key-least.result = record { sfits = c.least_key-least.type_inv } in
     let known = to_z-of_z fits ∙ rw (part_size block, to_z-of_z higher) at c.least_key-least.ensures in
-    found a.table a.sums.now a.ones.now a.keys.now r.n_bound r.narrow block c.code_of-then-least-lt0.result _ inside c.loop-block.invariant.3 known
+    found a.table a.sums.now a.ones.now a.keys.now r.n_bound r.narrow block c.code_of-then-least-lt0.result _ inside c.loop-block.invariant known
     c.if-least-lt0.true c.code_of-then-least-lt0.ensures
 
 pub loop-block-preserved : goal.loop-block-preserved
 loop-block-preserved c =
     let a = c.args in
-    let inv = c.loop-block.invariant in
     let block = c.loop-block.block in
     let higher : SFits w16 (get_or a.sums.now (32 + block) (pos 0)) = search rules in
     let fits : SFits w16 c.least_key-least.result = record { sfits = c.least_key-least.type_inv } in
     let known = to_z-of_z fits ∙ rw (part_size block, to_z-of_z higher) at c.least_key-least.ensures in
-    (inv.0, omega arith, omega arith, below_more _ _ inv.3 (rw known at c.if-least-lt0.false))
+    below_more _ _ c.loop-block.invariant (rw known at c.if-least-lt0.false)
 
 pub returns : goal.returns
 returns c =
     let a = c.args in
-    let all : blocks_of a.table.n ≤ c.loop-block.block = omega (arith, c.block_count-blocks.ensures) in
+    let all : blocks_of a.table.n ≤ c.loop-block.block = omega (arith, c.block_count-block-end.ensures) in
     nothing_found a.table a.sums.now a.ones.now a.keys.now c.requires.n_bound.0 c.requires.n_bound.1 c.requires.n_bound.2 c.requires.narrow.0
-    (passed a.table a.sums.now a.ones.now a.keys.now c.requires.n_bound c.requires.narrow (blocks_of a.table.n) (omega arith) (λ h l. c.loop-block.invariant.3 h (omega arith)))
+    (passed a.table a.sums.now a.ones.now a.keys.now c.requires.n_bound c.requires.narrow (blocks_of a.table.n) (omega arith) (λ h l. c.loop-block.invariant h (omega arith)))

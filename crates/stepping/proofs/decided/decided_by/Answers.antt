@@ -1,7 +1,6 @@
--- `stepping::decided::decided_by` meets its contract: the fresh state of a table is sound. Assumes nothing.
+-- `decided::decided_by` meets its contract: the fresh state of a table is sound. Assumes nothing.
 use mathlib.Core.Path.{sym, ◌∙◌, ap, subst}
 use native.Mathlib.Omega.{arith}
-use borrow.Author.Rules.{rules}
 use Rattle.types.specs.declared.state.State.{State}
 use Rattle.state.specs.Machine.{run, call_budget}
 use Rattle.state.specs.Sound.{Sound}

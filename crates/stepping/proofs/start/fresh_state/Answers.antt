@@ -1,15 +1,10 @@
--- `stepping::start::fresh_state` meets its contract: the state by the search for a binate input, and for a row that is cared for. Assumes
+-- `start::fresh_state` meets its contract: the state by the search for a binate input, and for a row that is cared for. Assumes
 -- nothing.
 use Rattle.std.specs.Prelude.{◌≡◌, ℕ, true, false, List}
 use mathlib.Core.Path.{refl, sym, ◌∙◌, ap}
-use mathlib.Core.Option.{Option, some, none}
-use borrow.Author.Rules.{rules}
+use Rattle.std.specs.Prelude.{Option, Some, None}
 use Rattle.function.proofs.BinateLaws.{binate_place_lt}
-use Rattle.table.proofs.InputLaws.{lowest_some, lowest_none}
-use Rattle.table.specs.Inputs.{lowest_of}
-use Rattle.table.specs.declared.lowest.Lowest.{Lowest}
-use Rattle.table.specs.declared.lowest.Lowest.TheVariants.{At}
-use Rattle.numbers.specs.Tests.{is_some}
+use Rattle.std.specs.Prelude.{is_some}
 use Rattle.numbers.proofs.TestLaws.{no_true}
 use Rattle.function.specs.Function.{Function}
 use Rattle.function.specs.Binate.{binate_place}
@@ -23,41 +18,32 @@ use Rattle.table.specs.Table.{function_of}
 use Rattle.stepping.proofs.start.fresh_state.Goals as goal
 use Rattle.stepping.proofs.start.fresh_state.Goals.{then-some_cared, else-some_cared}
 
-pub enum_told-1 : goal.enum_told-1
-enum_told-1 c = search rules
-
 -- the fresh state of a table without a binate input, by whether a row fails at the vector 0
-module _ (f : Function) (unate : binate_place f ≡ none) where
+module _ (f : Function) (unate : binate_place f ≡ None) where
   opened : (first : Option ℕ) → failing f zero_vector ≡ first → is_some first ≡ true → start_state zeros Stage'.Open ≡ fresh f
-  opened none e some-fails = absurd (no_true some-fails)
-  opened (some r) e some-fails = sym (fresh_open f r unate e)
+  opened None e some-fails = absurd (no_true some-fails)
+  opened (Some r) e some-fails = sym (fresh_open f r unate e)
 
   ended : (first : Option ℕ) → failing f zero_vector ≡ first → is_some first ≡ false → start_state zeros Stage'.Found ≡ fresh f
-  ended none e none_fails = sym (fresh_found f unate e)
-  ended (some r) e none_fails = absurd (no_true (sym none_fails))
+  ended None e none_fails = sym (fresh_found f unate e)
+  ended (Some r) e none_fails = absurd (no_true (sym none_fails))
 
 pub returns-in_default : goal.returns-in_default
 returns-in_default c =
     let f = function_of c.args.table in
-    let unate = lowest_none (binate_place f) (sym c.binate_place.ensures ∙ c.in_default.is) in
+    let unate = sym c.binate_place.ensures ∙ c.in_default.is in
     c.start_state.ensures
     ∙ elim c.if-some_cared.branch [
       | then-some_cared w ↦ ap (start_state zeros) w.stage-is ∙ opened f unate _ refl (sym c.some_cared.ensures ∙ w.if-some_cared.true)
       | else-some_cared w ↦ ap (start_state zeros) w.stage-is ∙ ended f unate _ refl (sym c.some_cared.ensures ∙ w.if-some_cared.false)
     ]
 
--- the place that was found
-place_found : (f : Function) {found : Lowest} (place : ℕ) → found ≡ lowest_of (binate_place f) → found ≡ At place → binate_place f ≡ some place
-place_found f place found is = lowest_some (binate_place f) place (sym found ∙ is)
-
 pub binate_counts-requires : goal.binate_counts-requires
 binate_counts-requires c =
-    let f = function_of c.args.table in
-    (c.requires, binate_place_lt f c.in-At.place (place_found f c.in-At.place c.binate_place.ensures c.in-At.is))
+    (c.requires, binate_place_lt (function_of c.args.table) c.in-Some.place (sym c.binate_place.ensures ∙ c.in-Some.is))
 
 pub returns : goal.returns
 returns c =
-    let f = function_of c.args.table in
     c.start_state-2.ensures
     ∙ ap (λ (counts : List ℕ). start_state counts Stage'.Binate) c.binate_counts.ensures
-    ∙ sym (fresh_binate f c.in-At.place (place_found f c.in-At.place c.binate_place.ensures c.in-At.is))
+    ∙ sym (fresh_binate (function_of c.args.table) c.in-Some.place (sym c.binate_place.ensures ∙ c.in-Some.is))

@@ -1,11 +1,8 @@
--- `stepping::start::some_cared` meets its contract: at the vector 0 a row fails exactly if it is cared for. The loop's invariant: no row below
--- `row` is cared for. The measure is what is left of the rows. Assumes nothing.
-use Rattle.std.specs.Prelude.{◌≡◌, ℕ, ◌-◌, ◌<◌, ◌≤◌, false}
+-- `start::some_cared` meets its contract: at the vector 0 a row fails exactly if it is cared for. The loop's invariant: no row below `row` is
+-- cared for. Assumes nothing.
+use Rattle.std.specs.Prelude.{◌≡◌, ℕ, ◌<◌, false}
 use Rattle.table.specs.Table.{cared}
 use Rattle.stepping.proofs.start.some_cared.Given as goal
 
 abbrev pub invariant-loop-row : goal.invariant-loop-row
-invariant-loop-row l = (l.row ≤ l.rows) × ((r : ℕ) → r < l.row → cared l.table r ≡ false)
-
-abbrev pub decreases-loop-row : goal.decreases-loop-row
-decreases-loop-row l = l.rows - l.row
+invariant-loop-row l = (r : ℕ) → r < l.row → cared l.table r ≡ false

@@ -1,4 +1,4 @@
--- `stepping::stepping::fast_steps` meets its contract. The loop's invariant: the state is the machine's but for the steps that are left (`Left` of
+-- `stepping::fast_steps` meets its contract. The loop's invariant: the state is the machine's but for the steps that are left (`Left` of
 -- LeftLaws). The measure is what is left. Assumes nothing.
 use Rattle.std.specs.Prelude.{◌≡◌, ◌<◌, ◌≤◌}
 use mathlib.Core.Path.{refl}
@@ -8,10 +8,10 @@ use Rattle.types.specs.declared.stage.Stage.TheVariants.{Open}
 use Rattle.machine.specs.Core.{state_of}
 use Rattle.state.specs.Sound.{Sound}
 use Rattle.state.proofs.SoundBounds.{in_range_search, unit_current, unit_copied}
-use Rattle.stepping.proofs.LeftLaws.{Left, left_start, left_next, left_sound, left_capped}
+use Rattle.stepping.proofs.LeftLaws.{left_start, left_next, left_sound, left_capped}
 use Rattle.table.specs.Table.{function_of}
 use Rattle.stepping.proofs.stepping.fast_steps.Goals as goal
-use Rattle.stepping.proofs.stepping.fast_steps.Goals.{At-loop-table, In-loop-table, Joined-left-lt-CHUNK, then-left-lt-CHUNK, else-left-lt-CHUNK}
+use Rattle.stepping.proofs.stepping.fast_steps.Goals.{At-loop-table, In-loop-table}
 
 pub loop-table-init : goal.loop-table-init
 loop-table-init c = left_start _ _
@@ -32,32 +32,11 @@ is_fast-requires c =
 fast : (c : In-loop-table) → let core = c.loop-table.core in (0 < c.loop-table.left) × (core.stage ≡ Open) × (magnitude core.v ≤ 9000) × (magnitude core.s ≤ 9000)
 fast c = c.is_fast.ensures c.loop-table-test.true
 
--- the part of a pass is 1 to 750 of what is left
-part_of : (c : Joined-left-lt-CHUNK) → (0 < c.if-left-lt-CHUNK.part) × (c.if-left-lt-CHUNK.part ≤ 750) × (c.if-left-lt-CHUNK.part ≤ c.loop-table.left)
-part_of c =
-    let some = (fast c.before).0 in
-    elim c.if-left-lt-CHUNK.branch [
-      | then-left-lt-CHUNK w ↦ (omega arith, omega arith, omega arith)
-      | else-left-lt-CHUNK w ↦ (omega arith, omega arith, omega arith)
-    ]
-
-pub chunk-core-requires : goal.chunk-core-requires
-chunk-core-requires c =
+pub chunk-core-requires-clause-n_bound : goal.chunk-core-requires-clause-n_bound
+chunk-core-requires-clause-n_bound c =
     let p = c.requires in
-    let told = fast (goal.at.chunk-core-requires c).In-loop-table in
-    let few = left_capped c.loop-table.invariant p.0 p.1 p.2 in
-    let part = part_of (goal.at.chunk-core-requires c).Joined-left-lt-CHUNK in
-    record { n_bound = (p.0, sound (goal.at.chunk-core-requires c).At-loop-table, told.1, omega (arith, few, part.2)); budget_bound = (part.1, told.2, told.3, p.3) }
-
-pub overflow_sub-left : goal.overflow_sub-left
-overflow_sub-left c = (part_of (goal.at.overflow_sub-left c).Joined-left-lt-CHUNK).2
-
-pub loop-table-smaller : goal.loop-table-smaller
-loop-table-smaller c = omega (arith, part_of (goal.at.loop-table-smaller c).Joined-left-lt-CHUNK)
+    let at = goal.at.chunk-core-requires-clause-n_bound c in
+    (p.0, sound at.At-loop-table, (fast at.In-loop-table).1, omega (arith, left_capped c.loop-table.invariant p.0 p.1 p.2))
 
 pub loop-table-preserved : goal.loop-table-preserved
-loop-table-preserved c = left_next c.loop-table.invariant (part_of (goal.at.loop-table-preserved c).Joined-left-lt-CHUNK).2 c.chunk-core.ensures
-
-pub returns : goal.returns
-returns c =
-    let l = c.loop-table.invariant in (l.within, l.machine)
+loop-table-preserved c = left_next c.loop-table.invariant (omega arith) c.chunk-core.ensures

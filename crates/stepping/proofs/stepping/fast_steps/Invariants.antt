@@ -1,16 +1,7 @@
--- `stepping::stepping::fast_steps` meets its contract. The loop's invariant: the state is the machine's but for the steps that are left (`Left` of
+-- `stepping::fast_steps` meets its contract. The loop's invariant: the state is the machine's but for the steps that are left (`Left` of
 -- LeftLaws). The measure is what is left. Assumes nothing.
-use Rattle.std.specs.Prelude.{◌≡◌, ◌<◌, ◌≤◌}
-use mathlib.Core.Path.{refl}
-use mathlib.Core.Logic.{⊎_elim}
-use native.Mathlib.Omega.{arith}
-use Rattle.lanes.specs.Sums.{magnitude}
-use Rattle.types.specs.declared.stage.Stage.TheVariants.{Open}
 use Rattle.machine.specs.Core.{state_of}
-use Rattle.state.specs.Sound.{Sound}
-use Rattle.state.proofs.SoundBounds.{in_range_search, unit_current, unit_copied}
-use Rattle.stepping.proofs.LeftLaws.{Left, left_start, left_next, left_sound, left_capped}
-use Rattle.table.specs.Table.{function_of}
+use Rattle.stepping.proofs.LeftLaws.{Left}
 use Rattle.stepping.proofs.stepping.fast_steps.Given as goal
 
 abbrev pub invariant-loop-table : goal.invariant-loop-table

@@ -1,26 +1,15 @@
--- `stepping::stepping::run` meets its contract: what the fast form leaves, the plain one makes. Assumes nothing.
-use mathlib.Core.Path.{sym, ◌∙◌, ap, subst}
+-- `stepping::run` meets its contract: what the fast form leaves, the plain one makes. Assumes nothing.
+use mathlib.Core.Path.{sym, ◌∙◌, ap}
 use Rattle.std.specs.Prelude.{◌≡◌, ℕ, ◌-◌, ◌≤◌}
 use native.Mathlib.Omega.{arith}
-use borrow.Author.Rules.{rules}
 use Rattle.types.specs.declared.table.Table.{Table}
 use Rattle.types.specs.declared.state.State.{State}
 use Rattle.state.specs.Machine.{run}
-use Rattle.state.specs.Sound.{Sound}
 use Rattle.state.proofs.MachineLaws.{open_stage, ended_stage}
 use Rattle.stepping.proofs.LeftLaws.{Left, left_none, left_ended, left_next, left_sound, left_capped}
 use Rattle.table.specs.Table.{function_of}
 use Rattle.stepping.proofs.stepping.run.Goals as goal
-
-pub fast_steps-way-requires : goal.fast_steps-way-requires
-fast_steps-way-requires c =
-    let p = c.requires in
-    let is = c.core_of.ensures in (
-      p.0,
-      subst (Sound (function_of c.args.table)) (sym is) p.1,
-      omega (arith, p.2, ap (λ (x : State). x.k) is),
-      p.3,
-    )
+use Rattle.stepping.proofs.stepping.run.Goals.{then-way-eq0-via-then-way-eq0, then-way-eq0-via-else-way-eq0+then-is_ended}
 
 -- what the fast form left: it began with the state's parts, and gave those of x
 left_by : {t : Table} {start parts made x : State} {budget left : ℕ} → (left ≤ budget) × (made ≡ run (function_of t) (budget - left) parts)
@@ -31,11 +20,12 @@ left_by {t = t} {budget = budget} {left = left} fast taken put = record {
 }
 
 pub returns-then-way-eq0 : goal.returns-then-way-eq0
-returns-then-way-eq0 c = left_none (left_by c.fast_steps-way.ensures c.core_of.ensures c.state_of-next.ensures) c.if-way-eq0.true
-
-pub returns-then-is_ended : goal.returns-then-is_ended
-returns-then-is_ended c =
-    left_ended (left_by c.fast_steps-way.ensures c.core_of.ensures c.state_of-next.ensures) (ended_stage _ (sym c.is_ended.ensures ∙ c.if-is_ended.true))
+returns-then-way-eq0 c =
+    let left = left_by c.fast_steps-way.ensures c.core_of.ensures c.state_of-next.ensures in
+    elim c.then-way-eq0.branch [
+      | then-way-eq0-via-then-way-eq0 w ↦ left_none left w.if-way-eq0.true
+      | then-way-eq0-via-else-way-eq0+then-is_ended w ↦ left_ended left (ended_stage _ (sym w.is_ended.ensures ∙ w.if-is_ended.true))
+    ]
 
 pub plain_steps-requires : goal.plain_steps-requires
 plain_steps-requires c =

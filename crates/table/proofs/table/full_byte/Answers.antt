@@ -30,7 +30,7 @@ low_full (suc (suc (suc n))) h = absurd (omega arith)
 pub returns-then-n-ge3 : goal.returns-then-n-ge3
 returns-then-n-ge3 c =
     let n = c.args.n in
-    record { by_index = λ k inside. all_kept n 255 c.if-n-ge3.true (omega arith) ∙ row_byte_lem n k 255 (λ row. true) inside (λ j l i. every_bit j l); by_index_2 = λ b l. (λ h. byte_filled c.if-n-ge3.true l, λ h. absurd (omega arith)) }
+    record { rows = λ k inside. all_kept n 255 c.if-n-ge3.true (omega arith) ∙ row_byte_lem n k 255 (λ row. true) inside (λ j l i. every_bit j l); largest = λ b l. (λ h. byte_filled c.if-n-ge3.true l, λ h. absurd (omega arith)) }
 
 pub returns : goal.returns
 returns c =
@@ -38,13 +38,10 @@ returns c =
     let few : n < 3 = omega (arith, c.if-n-ge3.false) in
     let full = ap (λ (x : ℕ). 255 % x) (shifted_by c) in
     let most = ap (λ (x : ℕ). x + 1) full ∙ low_full n few in
-    record { by_index = λ k inside. full ∙ some_kept n 255 few (omega arith) ∙ row_byte_lem n k 255 (λ row. true) inside (λ j l i. every_bit j l); by_index_2 = λ b l. (λ h. omega (arith, most), λ h. omega (arith, most)) }
+    record { rows = λ k inside. full ∙ some_kept n 255 few (omega arith) ∙ row_byte_lem n k 255 (λ row. true) inside (λ j l i. every_bit j l); largest = λ b l. (λ h. omega (arith, most), λ h. omega (arith, most)) }
 
 pub nonzero_rem-result : goal.nonzero_rem-result
 nonzero_rem-result c = omega (arith, shifted_by c, pow_pos (rows_of c.args.n))
-
-pub overflow_cast-result : goal.overflow_cast-result
-overflow_cast-result c = omega (arith, c.row_count.ensures, few_rows c)
 
 pub overflow_shl-result : goal.overflow_shl-result
 overflow_shl-result c = omega (arith, c.row_count.ensures, few_rows c)

@@ -6,14 +6,8 @@ use lib.ListN.{length}
 use Rattle.text.proofs.DecimalLaws.{decimal_one, decimal_less, decimal_twenty}
 use Rattle.text.proofs.decimal.digit_count.Goals as goal
 
-pub loop-rest-init : goal.loop-rest-init
-loop-rest-init c = omega arith
-
 pub overflow_add-count : goal.overflow_add-count
 overflow_add-count c = omega (arith, decimal_twenty c.args.x)
-
-pub loop-rest-smaller : goal.loop-rest-smaller
-loop-rest-smaller c = omega arith
 
 pub loop-rest-preserved : goal.loop-rest-preserved
 loop-rest-preserved c = omega (arith, decimal_less c.loop-rest.rest (omega arith) (omega arith))

@@ -1,6 +1,6 @@
 -- `decimal::put_decimal` meets its contract. The loop's invariant: `here` is the position behind the digits of `rest`, and those written at
 -- their place make the whole text. The measure is `rest`. Assumes nothing.
-use mathlib.Core.Path.{◌≡◌, refl, sym, ◌∙◌, ap}
+use mathlib.Core.Path.{◌≡◌, sym, ◌∙◌, ap}
 use mathlib.Core.List.{List, [], ◌∷◌}
 use Prim.Native.Nat.{ℕ, ◌+◌, ◌-◌, ◌/◌, ◌%◌, ◌^◌, ◌≤◌, ◌<◌}
 use native.Mathlib.Omega.{arith}
@@ -20,12 +20,6 @@ round out at rest here h k e room =
     let fewer = decimal_less rest h k in
     let place : here - 1 ≡ at + length others = omega arith in
     rw (place, written_one out (at + length others) last (omega arith), written_before out at others (last ∷ []) (omega arith)) (ap (written_at out at) (sym (decimal_more rest h k)))
-
-pub overflow_add-end : goal.overflow_add-end
-overflow_add-end c = omega arith
-
-pub loop-rest-init : goal.loop-rest-init
-loop-rest-init c = (omega arith, omega arith, omega arith, refl, refl)
 
 pub overflow_sub-here : goal.overflow_sub-here
 overflow_sub-here c = omega (arith, decimal_some c.loop-rest.rest)
@@ -48,9 +42,6 @@ loop-rest-preserved c =
 
 pub bounds-out-at : goal.bounds-out-at
 bounds-out-at c = omega (arith, decimal_some c.loop-rest.rest)
-
-pub shape_of-out : goal.shape_of-out
-shape_of-out c = rw length-set (omega arith)
 
 pub returns : goal.returns
 returns c =

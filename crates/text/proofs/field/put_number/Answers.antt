@@ -1,13 +1,8 @@
 -- `field::put_number` meets its contract: a space, and behind it the number. Assumes nothing.
 use mathlib.Core.List.{[], ◌∷◌}
-use Rattle.codec.proofs.WrittenLaws.{written_room, written_next}
+use Rattle.codec.proofs.WrittenLaws.{written_next}
 use Rattle.text.specs.Text.{decimal}
 use Rattle.text.proofs.field.put_number.Goals as goal
-
-pub put_decimal-requires : goal.put_decimal-requires
-put_decimal-requires c =
-    let a = c.args in
-    written_room a.out.now a.at (32 ∷ []) (decimal a.x) c.requires c.put_byte-here.ensures
 
 pub returns : goal.returns
 returns c =

@@ -1,6 +1,5 @@
--- The loop's invariant: v is s with what the sums add and take away at each input below `input`. The measure is what is left of the inputs 0
--- to n. Assumes nothing.
-use Rattle.std.specs.Prelude.{◌≡◌, ℕ, ◌+◌, ◌-◌, ◌≤◌, Bool, true, List, get_or, pos, ◌+ℤ◌}
+-- The loop's invariant: v is s with what the sums add and take away at each input below `input`. Assumes nothing.
+use Rattle.std.specs.Prelude.{◌≡◌, ℕ, Bool, true, List, get_or, pos, ◌+ℤ◌}
 use Rattle.numbers.specs.Tests.{all_below, same_z}
 use Rattle.types.specs.declared.vector.Vector.{Vector}
 use Rattle.function.specs.Vector.{component}
@@ -15,7 +14,4 @@ abbrev pub sum_in : List ℕ → ℕ → ℕ
 sum_in sums i = get_or sums i 0
 
 abbrev pub invariant-loop-input : goal.invariant-loop-input
-invariant-loop-input l = (l.n ≤ 8) × (l.input ≤ l.n + 1) × (all_below l.input (traced_by l.core.v l.core.s (sum_in l.added) (sum_in l.taken)) ≡ true)
-
-abbrev pub decreases-loop-input : goal.decreases-loop-input
-decreases-loop-input l = l.n + 1 - l.input
+invariant-loop-input l = all_below l.input (traced_by l.core.v l.core.s (sum_in l.added) (sum_in l.taken)) ≡ true

@@ -1,5 +1,5 @@
 -- `binate::binate_at` meets its contract. The loop's invariant: the two words have gathered the rises and the falls of the words
--- below `at`. The measure is the number of words left. Assumes nothing.
+-- below `at`. Assumes nothing.
 use mathlib.Core.Path.{◌≡◌, sym, ◌∙◌, ap, ap₂}
 use mathlib.Core.Bool.{Bool, true, false, not, ◌&&◌}
 use Prim.Native.Nat.{◌*◌, ◌≤◌, ◌<◌}
@@ -17,22 +17,19 @@ use Rattle.unateness.proofs.binate.binate_at.Goals as goal
 use Rattle.unateness.proofs.binate.binate_at.Goals.{After-loop-at}
 
 pub loop-at-init : goal.loop-at-init
-loop-at-init c = (omega arith, λ sides e d. (gather_none (turned sides true c.args.place), gather_none (turned sides false c.args.place)))
+loop-at-init c sides e d = (gather_none (turned sides true c.args.place), gather_none (turned sides false c.args.place))
 
 pub loop-at-preserved : goal.loop-at-preserved
-loop-at-preserved c =
-    let at_head = c.loop-at in
-    let place = c.args.place in (
-      omega arith,
-      λ sides e d.
-          let on = c.pairs_at-on.ensures (sides true) e in
-          let off = c.pairs_at-off.ensures (sides false) d in
-          let passed = at_head.invariant.1 sides e d in (
-            gather_more (turned sides true place) at_head.at passed.0
-                (word_turned sides true place at_head.at (ap (λ (x : Pairs). x.own) off) (ap (λ (x : Pairs). x.partner) on)),
-            gather_more (turned sides false place) at_head.at passed.1
-                (word_turned sides false place at_head.at (ap (λ (x : Pairs). x.own) on) (ap (λ (x : Pairs). x.partner) off)),
-          ),
+loop-at-preserved c sides e d =
+    let at = c.loop-at.at in
+    let place = c.args.place in
+    let on = c.pairs_at-on.ensures (sides true) e in
+    let off = c.pairs_at-off.ensures (sides false) d in
+    let passed = c.loop-at.invariant sides e d in (
+      gather_more (turned sides true place) at passed.0
+          (word_turned sides true place at (ap (λ (x : Pairs). x.own) off) (ap (λ (x : Pairs). x.partner) on)),
+      gather_more (turned sides false place) at passed.1
+          (word_turned sides false place at (ap (λ (x : Pairs). x.own) on) (ap (λ (x : Pairs). x.partner) off)),
     )
 
 -- both words are not 0 exactly if the place is binate
@@ -41,7 +38,7 @@ found_both c t h k e d =
     let at_end_lem = c.loop-at in
     let place = c.args.place in
     let all : rows t ≤ 64 * at_end_lem.at = omega arith in
-    let passed = at_end_lem.invariant.1 (on_side t) e d in
+    let passed = at_end_lem.invariant (on_side t) e d in
     ap₂ ◌&&◌ (turn_found t true place k at_end_lem.at all passed.0) (turn_found t false place k at_end_lem.at all passed.1)
     ∙ sym (binate_at_searches (function_of t) place)
 

@@ -1,8 +1,8 @@
 -- `binate::binate_at` meets its contract. The loop's invariant: the two words have gathered the rises and the falls of the words
--- below `at`. The measure is the number of words left. Assumes nothing.
+-- below `at`. Assumes nothing.
 use mathlib.Core.Path.{◌≡◌}
 use mathlib.Core.Bool.{Bool, true, false}
-use Prim.Native.Nat.{ℕ, ◌-◌, ◌≤◌}
+use Prim.Native.Nat.{ℕ}
 use Rattle.numbers.specs.Tabulate.{tabulate}
 use Rattle.numbers.specs.Packed.{packed}
 use Rattle.unateness.specs.Words.{word_of}
@@ -11,9 +11,5 @@ use Rattle.unateness.proofs.binate.binate_at.Given as goal
 
 abbrev pub invariant-loop-at : goal.invariant-loop-at
 invariant-loop-at l =
-    (l.at ≤ l.words)
-    × ((sides : Bool → ℕ → Bool) → l.trues ≡ tabulate 4 (word_of (sides true)) → l.falses ≡ tabulate 4 (word_of (sides false))
-    → (l.rises ≡ packed 64 (gathered (turned sides true l.place) l.at)) × (l.falls ≡ packed 64 (gathered (turned sides false l.place) l.at)))
-
-abbrev pub decreases-loop-at : goal.decreases-loop-at
-decreases-loop-at l = l.words - l.at
+    (sides : Bool → ℕ → Bool) → l.trues ≡ tabulate 4 (word_of (sides true)) → l.falses ≡ tabulate 4 (word_of (sides false))
+    → (l.rises ≡ packed 64 (gathered (turned sides true l.place) l.at)) × (l.falls ≡ packed 64 (gathered (turned sides false l.place) l.at))

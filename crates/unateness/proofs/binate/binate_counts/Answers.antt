@@ -2,14 +2,10 @@
 -- before the second pair. Assumes nothing.
 use mathlib.Core.Path.{◌≡◌, sym, ◌∙◌, ap}
 use mathlib.Core.Bool.{Bool, true, false}
-use mathlib.Core.Option.{some}
+use Rattle.std.specs.Prelude.{Option, Some}
 use Prim.Native.Nat.{ℕ, ◌+◌, ◌^◌, ◌<◌}
 use native.Mathlib.Omega.{arith}
-use borrow.Author.Rules.{rules}
 use Rattle.function.specs.Witness.{zeros}
-use Rattle.table.proofs.InputLaws.{lowest_some}
-use Rattle.table.specs.declared.lowest.Lowest.{Lowest}
-use Rattle.table.specs.Inputs.{lowest_of}
 use Rattle.function.specs.Turns.{first_turn}
 use Rattle.function.specs.Binate.{pair_more}
 use Rattle.unateness.proofs.BinateLaws.{first_turn_partner}
@@ -20,10 +16,10 @@ use Rattle.unateness.proofs.binate.binate_counts.Goals as goal
 use Rattle.unateness.proofs.binate.binate_counts.Goals.{After-add_pair, Start}
 
 -- the answer of a search for a turn names a row with its partner below 256
-partner : (c : Start) (to : Bool) {answer : Lowest} → answer ≡ lowest_of (first_turn (function_of c.args.table) to c.args.place) → (row : ℕ) → answer ≡ lowest_of (some row) → row + 2 ^ c.args.place < 256
+partner : (c : Start) (to : Bool) {answer : Option ℕ} → answer ≡ first_turn (function_of c.args.table) to c.args.place → (row : ℕ) → answer ≡ Some row → row + 2 ^ c.args.place < 256
 partner c to is row e =
     let a = c.args in
-    first_turn_partner a.table to a.place row c.requires.0 c.requires.1 (lowest_some (first_turn (function_of a.table) to a.place) row (sym is ∙ e))
+    first_turn_partner a.table to a.place row c.requires.0 c.requires.1 (sym is ∙ e)
 
 pub add_pair-requires : goal.add_pair-requires
 add_pair-requires c = (omega arith, partner (goal.at.add_pair-requires c).Start _ c.first_turn.ensures, λ row. omega (arith, get_d_zeros row))

@@ -1,8 +1,7 @@
--- `words::side_words` meets its contract. The loop's invariant: the words of both sides below `at` are made. The measure is the number of words
--- left. Assumes nothing.
+-- `words::side_words` meets its contract. The loop's invariant: the words of both sides below `at` are made. Assumes nothing.
 use mathlib.Core.Path.{◌≡◌}
 use mathlib.Core.List.{List}
-use Prim.Native.Nat.{ℕ, ◌-◌, ◌^◌, ◌≤◌}
+use Prim.Native.Nat.{ℕ, ◌-◌, ◌^◌}
 use lib.Bits.{bit_and}
 use Rattle.numbers.proofs.TabulateLaws.{filled}
 use Rattle.table.specs.Table.{rows, bit_at}
@@ -19,7 +18,4 @@ off bytes cares rows k = bit_and (word_of (in_table rows cares) k) (2 ^ 64 - 1 -
 
 abbrev pub invariant-loop-at : goal.invariant-loop-at
 invariant-loop-at l =
-    (l.at ≤ 4) × (l.trues ≡ filled (on l.bytes l.cares l.rows) l.initial.trues l.at) × (l.falses ≡ filled (off l.bytes l.cares l.rows) l.initial.falses l.at)
-
-abbrev pub decreases-loop-at : goal.decreases-loop-at
-decreases-loop-at l = 4 - l.at
+    (l.trues ≡ filled (on l.table.bytes l.table.cares l.rows) l.initial.trues l.at) × (l.falses ≡ filled (off l.table.bytes l.table.cares l.rows) l.initial.falses l.at)

@@ -1,7 +1,5 @@
--- `words::word_bytes` meets its contract. The loop's invariant: the bytes of the rows below `at` are stored into zeros. The measure is what is left of
--- the table's bytes. Assumes nothing.
+-- `words::word_bytes` meets its contract. The loop's invariant: the bytes of the rows below `at` are stored into zeros. Assumes nothing.
 use mathlib.Core.Path.{◌≡◌}
-use Prim.Native.Nat.{◌-◌, ◌≤◌}
 use lib.ListN.{replicate}
 use Rattle.numbers.proofs.TabulateLaws.{filled}
 use Rattle.table.specs.Table.{rows_of, row_byte}
@@ -9,7 +7,4 @@ use Rattle.words.specs.Words.{word_row}
 use Rattle.words.proofs.words.word_bytes.Given as goal
 
 abbrev pub invariant-loop-at : goal.invariant-loop-at
-invariant-loop-at l = (l.at ≤ l.count) × (l.bytes ≡ filled (row_byte (rows_of l.n) (word_row l.words)) (replicate 32 0) l.at)
-
-abbrev pub decreases-loop-at : goal.decreases-loop-at
-decreases-loop-at l = l.count - l.at
+invariant-loop-at l = l.bytes ≡ filled (row_byte (rows_of l.n) (word_row l.words)) (replicate 32 0) l.at

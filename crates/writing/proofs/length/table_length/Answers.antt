@@ -20,19 +20,10 @@ counted c =
     let long : length t.bytes ≡ 32 = search rules in
     table_count t c.requires.0 long
 
-pub overflow_add-result : goal.overflow_add-result
-overflow_add-result c = omega (arith, c.byte_count-bits.ensures, bytes_le c.requires.0)
-
 pub returns-then-is_whole : goal.returns-then-is_whole
 returns-then-is_whole c =
     let none = cares_none c.args.table (sym c.is_whole.ensures ∙ c.if-is_whole.true) in
     omega (arith, c.byte_count-bits.ensures, counted (goal.at.returns-then-is_whole c).Start, ap length none)
-
-pub overflow_add-result-2 : goal.overflow_add-result-2
-overflow_add-result-2 c = omega (arith, c.byte_count-bits.ensures, bytes_le c.requires.0)
-
-pub overflow_add-result-3 : goal.overflow_add-result-3
-overflow_add-result-3 c = omega (arith, c.byte_count-bits.ensures, bytes_le c.requires.0)
 
 pub returns : goal.returns
 returns c =

@@ -1,12 +1,8 @@
--- `put::put_vector` meets its contract. The loop's invariant: the weights below `place` are written, and `here` is the position behind them.
--- The measure is the number of places left. Assumes nothing.
-use Prim.Native.Nat.{◌-◌, ◌≤◌}
+-- `put::put_vector` meets its contract. The loop's invariant: the weights so far are written, and `here` is the position behind them.
+-- Assumes nothing.
 use Rattle.codec.specs.Written.{Put}
 use Rattle.codec.proofs.WeightLaws.{weights}
 use Rattle.writing.proofs.put.put_vector.Given as goal
 
-abbrev pub invariant-loop-place : goal.invariant-loop-place
-invariant-loop-place l = (l.place ≤ l.n) × Put l.initial.out l.at (weights l.a l.place) l.out l.here
-
-abbrev pub decreases-loop-place : goal.decreases-loop-place
-decreases-loop-place l = l.n - l.place
+abbrev pub invariant-loop-weight : goal.invariant-loop-weight
+invariant-loop-weight l = Put l.initial.out l.at (weights l.v.a l.weight-index) l.out l.here

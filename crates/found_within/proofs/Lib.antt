@@ -1,2 +1,0 @@
--- the job of a record that was read
-pub mod JobLaws

@@ -1,2 +1,0 @@
--- what the code's kinds and kind bytes say
-pub mod HeadFacts

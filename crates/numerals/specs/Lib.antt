@@ -1,2 +1,0 @@
--- what the structs of numbers and vectors stand for
-pub mod Numerals

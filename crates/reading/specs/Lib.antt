@@ -1,2 +1,0 @@
--- what the structs of a table that was read stand for
-pub mod Fields

@@ -1,0 +1,2 @@
+-- the numbers of the refusals
+pub mod Refusal
