@@ -96,7 +96,11 @@ module _ (s : List ℕ) where
 
 -- ---- the numbers of a report
 
--- the numbers of a report are within their bounds after one record more, further on
+-- the numbers of the start are within their bounds
+pub bounded_start : Bounded start
+bounded_start = omega arith
+
+-- so they are after one record more, further on
 bounded_counted : (p : Progress) (next : ℕ) (stage : Stage) (k : ℕ) → Bounded p → p.at < next → next ≤ input_most → k ≤ cap
     → Bounded (progress next (counted stage k p.tally) Records)
 bounded_counted p next Open k b f n c = omega arith

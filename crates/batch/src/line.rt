@@ -47,7 +47,7 @@ fn refusal(at: usize, tally: Tally, refusal: Refusal, out: &mut [u8]) -> Line
     ensures made { Made (refusal_of at tally refusal) out.old out.new result }
     ensures fits { result.length ≤ line_room }
 {
-    let length = refusal_line(out, tally.records + 1, refusal);
+    let length = refusal_line(out, tally.records + 1, refusal.number());
     Line {
         length,
         next: Progress {

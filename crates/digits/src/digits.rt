@@ -26,7 +26,12 @@ fn digit_value(character: u8) -> u8
 fn all_digits(digits: &[u8]) -> bool
     ensures { result ≡ all_below (length digits.now) (is_digit digits.now) }
 {
-    digits.iter().all(|digit| digit_value(*digit) < 16)
+    for at in 0..digits.len() {
+        if 16 <= digit_value(digits[at]) {
+            return false;
+        }
+    }
+    true
 }
 
 // Returns a byte of the table of n inputs that digits stand for: two digits, or one that is all of the table.

@@ -53,7 +53,8 @@ fn shown(rt: &impl Print, job: Job, shown: Result<Verdict, Refusal>) -> io::Resu
             show::word(rt, b" none")
         }
         Ok(Verdict::Witness(witness)) => {
-            show::word(rt, b" witness none")?;
+            show::word(rt, b" witness")?;
+            show::word(rt, b" none")?;
             let counts = witness.counts;
             print::part(
                 rt,
@@ -62,12 +63,21 @@ fn shown(rt: &impl Print, job: Job, shown: Result<Verdict, Refusal>) -> io::Resu
                 counts == job.state.counts,
             )
         }
-        Ok(Verdict::Open) => show::word(rt, b" open none none"),
+        Ok(Verdict::Open) => {
+            show::word(rt, b" open")?;
+            no_parts(rt)
+        }
         Err(refusal) => {
             show::number(rt, refusal.number() as u64)?;
-            show::word(rt, b" none none")
+            no_parts(rt)
         }
     }
+}
+
+// Prints that neither gate nor witness is shown, a write each, as the parts are written.
+fn no_parts(rt: &impl Print) -> io::Result<()> {
+    show::word(rt, b" none")?;
+    show::word(rt, b" none")
 }
 
 // Prints whether a gate is all 0 or the job's v.

@@ -1,7 +1,7 @@
 // The reader: the sender's bytes together with the position reached. Each method leaves the work to a function on a slice and a number;
 // `moved` takes the reader on to where a field ended.
 ghost use Rattle.std.specs.Prelude.{◌≡◌, [], ◌∷◌, Ok};
-ghost use Rattle.refusal.specs.Refusal.{checked};
+ghost use Rattle.refusal.specs.Refusal.{and_then, checked};
 ghost use Rattle.codec.specs.Kind.{kind_at};
 ghost use Rattle.codec.specs.TableField.{table_at};
 ghost use Rattle.heads.specs.Heads.{taken_by};
@@ -45,24 +45,26 @@ impl<'a> Reader<'a> {
         read_kind(self.src, self.at, takes)
     }
 
-    // Reads what follows a kind byte that was read. Refusals: 1, 4, 2, 3, 16 of the table; 7, 8 or 9 by the family.
-    pub fn body(self, head: Head) -> Result<Field<Record>, Refusal>
-        ensures { result ≡ body_at head self.entry.src.now self.entry.at }
+    // Reads what follows a kind byte, of which `kind` is what reading it gave. Refusals: the kind's; 1, 4, 2, 3, 16 of the table; 7, 8 or 9 by
+    // the family.
+    pub fn body(self, kind: Result<Field<Head>, Refusal>) -> Result<Field<Record>, Refusal>
+        ensures { result ≡ and_then kind (λ head. body_at head.value self.entry.src.now self.entry.at) }
     {
-        body_at(self.src, self.at, head)
+        body_at(self.src, self.at, kind)
     }
 
-    // Returns the record that was read, if the reader has reached the end. Refusal: 6.
-    pub fn end(self, read: Record) -> Result<Record, Refusal>
-        ensures { result ≡ checked (bytes_left self.entry.src.now self.entry.at ∷ []) (Ok read) }
+    // Returns the record that was read, of which `body` is what reading it gave, if the reader has reached the end. Refusals: the record's; 6.
+    pub fn end(self, body: Result<Field<Record>, Refusal>) -> Result<Record, Refusal>
+        ensures { result ≡ and_then body (λ read. checked (bytes_left self.entry.src.now self.entry.at ∷ []) (Ok read.value)) }
     {
-        end_at(self.src, self.at, read)
+        end_at(self.src, self.at, body)
     }
 
-    // Reads the table that follows a kind byte that was read. Refusals: 1, 4, 2, 3, 16 of the table.
-    pub fn table(self, head: Head) -> Result<Field<Table>, Refusal>
-        ensures { result ≡ table_at head.cares self.entry.src.now self.entry.at }
+    // Reads the table that follows a kind byte, of which `kind` is what reading it gave. Refusals: the kind's; 1, 4, 2, 3, 16 of the table.
+    pub fn table(self, kind: Result<Field<Head>, Refusal>) -> Result<Field<Table>, Refusal>
+        ensures { result ≡ and_then kind (λ head. table_at head.value.cares self.entry.src.now self.entry.at) }
     {
+        let head = kind?.value;
         read_table(self.src, self.at, head.cares)
     }
 }

@@ -16,10 +16,10 @@ pub fn read(bytes: &[u8]) -> Result<Record, Refusal>
     ensures { result ≡ read_record bytes.now }
 {
     let first = Reader::start(bytes);
-    let head = first.kind(Takes::Every)?;
-    let second = first.moved(head.next);
-    let read = second.body(head.value)?;
-    second.moved(read.next).end(read.value)
+    let kind = first.kind(Takes::Every)?;
+    let second = first.moved(kind.next);
+    let body = second.body(Ok(kind))?;
+    second.moved(body.next).end(Ok(body))
 }
 
 // Reads the record of a table alone from a position on, as a report's reader travels from one to the next. Refusals: 1, 5, 4, 2, 3, 16.
@@ -28,6 +28,6 @@ pub fn table_at(bytes: &[u8], at: usize) -> Result<Field<Table>, Refusal>
     ensures { result ≡ table_record_at bytes.now at }
 {
     let first = Reader::start(bytes).moved(at);
-    let head = first.kind(Takes::Tables)?;
-    first.moved(head.next).table(head.value)
+    let kind = first.kind(Takes::Tables)?;
+    first.moved(kind.next).table(Ok(kind))
 }

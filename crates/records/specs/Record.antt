@@ -5,7 +5,6 @@ use Rattle.std.specs.Prelude.{ℕ, true, false, not, ◌&&◌, List, [], ◌∷�
 use Rattle.records.specs.declared.record.Record.{Record}
 use Rattle.types.specs.declared.table.Table.{Table}
 use Rattle.types.specs.declared.gate.Gate.{Gate}
-use Rattle.types.specs.declared.witness.Witness.{Witness}
 use Rattle.table.specs.Table.{rows, is_whole}
 use Rattle.refusal.specs.Refusal.{Rule, rule, Answered, checked}
 use Rattle.types.specs.declared.vector.Vector.{Vector}

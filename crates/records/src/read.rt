@@ -2,7 +2,7 @@
 ghost use Rattle.std.specs.Prelude.{◌≡◌, [], ◌∷◌, ◌≤◌, Ok};
 ghost use Rattle.numbers.specs.Power.{highest};
 ghost use Rattle.table.specs.Table.{rows_of};
-ghost use Rattle.refusal.specs.Refusal.{checked};
+ghost use Rattle.refusal.specs.Refusal.{and_then, checked};
 ghost use Rattle.records.specs.Record.{gate_at, witness_at, counts_at, job_at, rest_at, body_at, bytes_left};
 
 use crate::record::Record;
@@ -128,19 +128,30 @@ fn rest_at(bytes: &[u8], at: usize, family: Family, table: Table) -> Result<Fiel
     }
 }
 
-// Reads what follows a kind byte that was read, at a position. Refusals: 1, 4, 2, 3, 16 of the table; 7, 8 or 9 by the family.
+// Reads what follows a kind byte, of which `kind` is what reading it gave, at a position. Refusals: the kind's; 1, 4, 2, 3, 16 of the table;
+// 7, 8 or 9 by the family.
 #[tactic(auto, unfolding(crate::specs::Record::body_at))]
-pub fn body_at(bytes: &[u8], at: usize, head: Head) -> Result<Field<Record>, Refusal>
-    ensures { result ≡ body_at head bytes.now at }
+pub fn body_at(
+    bytes: &[u8],
+    at: usize,
+    kind: Result<Field<Head>, Refusal>,
+) -> Result<Field<Record>, Refusal>
+    ensures { result ≡ and_then kind (λ head. body_at head.value bytes.now at) }
 {
+    let head = kind?.value;
     let table = read_table(bytes, at, head.cares)?;
     rest_at(bytes, table.next, head.family, table.value)
 }
 
-// Returns the record that was read, if a position is at the end. Refusal: 6.
-pub fn end_at(bytes: &[u8], at: usize, read: Record) -> Result<Record, Refusal>
-    ensures { result ≡ checked (bytes_left bytes.now at ∷ []) (Ok read) }
+// Returns the record that was read, of which `body` is what reading it gave, if a position is at the end. Refusals: the record's; 6.
+pub fn end_at(
+    bytes: &[u8],
+    at: usize,
+    body: Result<Field<Record>, Refusal>,
+) -> Result<Record, Refusal>
+    ensures { result ≡ and_then body (λ read. checked (bytes_left bytes.now at ∷ []) (Ok read.value)) }
 {
+    let read = body?.value;
     if at < bytes.len() {
         return Err(Refusal::BytesLeft);
     }

@@ -1,6 +1,6 @@
--- The last line and the line of a refusal fit into the room of a line, since a number has at most twenty digits. No line is empty: it begins
--- with a number. Assumes nothing.
-use Prim.Native.Nat.{ℕ, zero, suc, ◌/◌, ◌%◌, ◌≤◌}
+-- The last line and the line of a refusal fit into the room of a line and leave room for a number, which has at most twenty digits. No line is
+-- empty: it begins with a number. Assumes nothing.
+use Prim.Native.Nat.{ℕ, zero, suc, ◌+◌, ◌/◌, ◌%◌, ◌≤◌}
 use native.Mathlib.Omega.{arith}
 use lib.ListN.{length, length-append}
 use Rattle.reporting.specs.declared.tally.Tally.{Tally}
@@ -9,7 +9,7 @@ use Rattle.reporting.specs.Lines.{line_room, record_line, refusal_line, mean_ten
 use Rattle.text.proofs.DecimalLaws.{decimal_twenty, decimal_some}
 
 -- the line of a refusal
-pub refusal_room : (position number : ℕ) → length (refusal_line position number) ≤ line_room
+pub refusal_room : (position number : ℕ) → length (refusal_line position number) + 21 ≤ line_room
 unfolding refusal_line
 refusal_room position number = simp length-append (omega (arith, decimal_twenty position, decimal_twenty number))
 
@@ -21,7 +21,7 @@ mean_most (suc gates) sum =
     rw length-append (omega (arith, decimal_twenty (tenths / 10), decimal_twenty (tenths % 10)))
 
 -- the last line
-pub last_room : (t : Tally) → length (last_line t) ≤ line_room
+pub last_room : (t : Tally) → length (last_line t) + 21 ≤ line_room
 unfolding last_line
 last_room t =
     simp length-append

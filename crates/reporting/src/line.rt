@@ -2,7 +2,6 @@
 ghost use Rattle.std.specs.Prelude.{◌≡◌, ◌≤◌, ◌<◌, length};
 ghost use Rattle.codec.specs.Written.{Room, Put};
 ghost use Rattle.reporting.specs.Lines.{verdict_text, record_line, refusal_line, too_long_line, mean_tenths, mean_text, last_line, line_room};
-ghost use Rattle.types.specs.Refusal.{number_of};
 ghost use Rattle.reporting.specs.Report.{input_most, sum_most, Within};
 
 use crate::tally::Tally;
@@ -12,7 +11,6 @@ use notation::gate::put_gate;
 use notation::witness::put_witness;
 use text::decimal::put_decimal;
 use text::field::{put_byte, put_letter, put_number};
-use types::refusal::Refusal;
 use types::stage::Stage;
 
 // The room that every line fits into.
@@ -49,15 +47,14 @@ pub fn record_line(out: &mut [u8], position: u64, job: Job) -> usize
 
 // Makes the line of a refusal: position, R, number.
 #[tactic(auto, using(text::proofs::DecimalLaws::decimal_twenty), unfolding(crate::specs::Lines::refusal_line))]
-pub fn refusal_line(out: &mut [u8], position: u64, refusal: Refusal) -> usize
+pub fn refusal_line(out: &mut [u8], position: u64, number: u8) -> usize
     requires { line_room ≤ length out.old }
-    ensures put { Put out.old 0 (refusal_line position (number_of refusal)) out.new result }
+    ensures put { Put out.old 0 (refusal_line position number) out.new result }
     ensures upper_bound { result ≤ line_room }
 {
-    let number = refusal.number() as u64;
     let mut here = put_decimal(out, 0, position);
     here = put_letter(out, here, b'R');
-    here = put_number(out, here, number);
+    here = put_number(out, here, number as u64);
     put_byte(out, here, b'\n')
 }
 

@@ -47,7 +47,11 @@ module _ (s : List ℕ) (fits : (i : ℕ) → Fits w8 (get_or s i 0)) where
   pub table_few : (t : Table) → read_record s ≡ Ok (Record'.Table t) → t.n ≤ 8
   table_few t e = kept_inputs t (table_kept t e)
 
-  -- as has that beside a witness
+  -- the table beside a gate keeps its rules too. Wrong programs cite it, that take such a record for a table
+  pub gate_table_kept : (t : Table) (g : Gate) → read_record s ≡ Ok (Record'.Gate t g) → NoneBroken (table_rules t [])
+  gate_table_kept t g e = read_kept (Record'.Gate t g) e
+
+  -- the table beside a witness has at most eight inputs
   pub witness_few : (t : Table) (w : Witness) → read_record s ≡ Ok (Record'.Witness t w) → t.n ≤ 8
   witness_few t w e = kept_inputs t (read_kept (Record'.Witness t w) e)
 

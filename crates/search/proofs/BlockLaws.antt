@@ -27,7 +27,7 @@ use Rattle.types.specs.declared.vector.Vector.{Vector}
 use Rattle.function.specs.Failing.{margin, fails, failing}
 use Rattle.function.proofs.RangeLaws.{in_range_correct, in_range_past}
 use Rattle.function.proofs.FailingLaws.{failing_at, none_failing}
-use Rattle.lanes.specs.Blocks.{blocks_of, lane_rows, lane_value, lane_cared}
+use Rattle.lanes.specs.Blocks.{lane_rows, lane_value, lane_cared}
 use Rattle.lanes.specs.Sums.{vector_sums}
 use Rattle.lanes.proofs.SumsLaws.{sums_low, sums_high}
 use Rattle.search.specs.Keys.{goes_true}

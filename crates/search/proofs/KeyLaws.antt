@@ -2,7 +2,6 @@
 -- lowest failing row. Assumes nothing.
 use mathlib.Core.Path.{◌≡◌, refl, sym, ◌∙◌, ap}
 use mathlib.Core.Bool.{Bool, true, false, not, cond, ◌&&◌}
-use mathlib.Core.List.{List}
 use Rattle.std.specs.Int.{int_min}
 use Rattle.std.specs.Prelude.{Option, Some, None}
 use Prim.Native.Nat.{ℕ, zero, suc, ◌+◌, ◌*◌, ◌-◌, ◌^◌, ◌≤◌, ◌<◌}
@@ -10,7 +9,6 @@ use native.Mathlib.Numerals.{add-one}
 use native.Mathlib.Decide.{dec_le}
 use native.Mathlib.Omega.{arith}
 use lib.Bits.{bit_and, bit_xor, and_high, xor_zero_l, xor_shifted, xor_block}
-use lib.ListN.{length, set, length-set}
 use lib.IntN.{ℤ, pos, negsuc, neg_ℤ, nat_abs, ◌+ℤ◌, ◌-ℤ◌}
 use lib.Signed.{lt_z, ◌≤ℤ◌, ≤ℤ_refl}
 use borrow.Author.Tests.{le-ltb}
@@ -24,10 +22,8 @@ use Rattle.numbers.proofs.TestLaws.{no_true, not_passed}
 use Rattle.numbers.proofs.FirstLaws.{IsFirst, first_some, first_none}
 use Rattle.types.specs.declared.table.Table.{Table}
 use Rattle.function.specs.Failing.{margin}
-use Rattle.numbers.specs.Tabulate.{Holds}
-use Rattle.lanes.specs.Blocks.{blocks_of, lane_value, lane_cared}
+use Rattle.lanes.specs.Blocks.{lane_value, lane_cared}
 use Rattle.lanes.specs.Codes.{row_code}
-use Rattle.lanes.proofs.WeightLaws.{blocks_le}
 use Rattle.search.specs.Keys.{one_of, key_of, goes_true, flipped, flipped_by, least_below}
 
 -- ---- bits

@@ -36,9 +36,9 @@ fn free_bytes(table: Table) -> [u8; 32]
     requires { table.n ≤ 8 }
     ensures { (row : ℕ) → row < rows table → bit_at result row ≡ not (cared table row) }
 {
-    let mut frees = table.cares;
-    for byte in &mut frees {
-        *byte = !*byte;
+    let mut frees = [0u8; 32];
+    for at in 0..byte_count(table.n) {
+        frees[at] = !table.cares[at];
     }
     frees
 }
@@ -48,9 +48,9 @@ fn true_bytes(table: Table) -> [u8; 32]
     requires { table.n ≤ 8 }
     ensures { (row : ℕ) → row < rows table → bit_at result row ≡ (cared table row && value table row) }
 {
-    let mut trues = table.cares;
-    for (at, byte) in trues.iter_mut().enumerate() {
-        *byte &= table.bytes[at];
+    let mut trues = [0u8; 32];
+    for at in 0..byte_count(table.n) {
+        trues[at] = table.cares[at] & table.bytes[at];
     }
     trues
 }

@@ -14,7 +14,7 @@ ghost use Rattle.state.specs.Sound.{cap, mark_for, is_traced, is_binate_with, so
 use machine::core_state::Core;
 use machine::power::top_power;
 use machine::vector::vector_within;
-use rowwise::witness::{counts_cared, counts_within};
+use rowwise::witness::{counts_cared, counts_within, same_counts};
 use scan::scan::first_failing;
 use table::table::row_count;
 use trace::traced::is_traced;
@@ -60,7 +60,7 @@ fn has_binate_counts(table: Table, counts: &[u32; 256]) -> bool
     let Some(place) = binate_place(table) else {
         return false;
     };
-    *counts == binate_counts(table, place)
+    same_counts(counts, &binate_counts(table, place))
 }
 
 // Whether the state is the fresh one of a binate table.

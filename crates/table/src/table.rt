@@ -103,15 +103,17 @@ pub fn is_whole(table: Table) -> bool
 }
 
 // Whether a row that is not cared for has a value bit.
+// kept: the bits are gathered, since `any` asks byte by byte, which took a call that makes a table a quarter to a half more
 pub fn stray_value(table: Table) -> bool
     requires { (table.n ≤ 8) × (spare_set table.n table.bytes ≡ false) }
     ensures { result ≡ stray_value table }
 {
     let count = byte_count(table.n);
-    table.bytes[..count]
-        .iter()
-        .zip(&table.cares)
-        .any(|(values, cares)| *values & !*cares != 0)
+    let mut stray = 0u8;
+    for at in 0..count {
+        stray |= table.bytes[at] & !table.cares[at];
+    }
+    stray != 0
 }
 
 // Whether a byte is not 0.

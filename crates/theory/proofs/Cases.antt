@@ -18,6 +18,7 @@ use Rattle.numbers.specs.Tabulate.{tabulate}
 use Rattle.numbers.specs.Power.{highest}
 use Rattle.function.specs.Binate.{binate_at, binate_place, binate_counts}
 use Rattle.state.specs.Sound.{is_traced, sound_in, is_sound}
+use Rattle.types.specs.declared.refusal.Refusal.TheVariants as Refusal'
 use Rattle.theory.specs.Cases.{MarkedCases}
 
 -- m1 to m10 hold
@@ -33,8 +34,8 @@ marked_cases = record {
   m7 = refl;
   m8 = (refl, refl);
   m9 = (
-    record { sound = refl; stage = refl; corrections = refl; taken = refl; above = refl },
-    record { sound = refl; stage = refl; corrections = refl; taken = refl; above = refl },
+    record { sound = refl; stage = refl; corrections = refl; taken = refl; above = (Refusal'.Budget, refl, refl) },
+    record { sound = refl; stage = refl; corrections = refl; taken = refl; above = (Refusal'.Cap, refl, refl) },
   );
   m10 = refl;
 }

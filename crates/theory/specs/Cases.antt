@@ -1,7 +1,7 @@
 -- The marked cases m1 to m10 (document 01, "Edges and marked cases"), one field for each. Definitions only. Assumes nothing.
 use Rattle.std.specs.Prelude.{◌≡◌, true, false, List, [], ◌∷◌, ℕ, ◌+◌, set, ℤ, pos, neg_ℤ, Ok, Err}
 use Rattle.types.specs.declared.refusal.Refusal.{Refusal}
-use Rattle.types.specs.declared.refusal.Refusal.TheVariants as Refusal'
+use Rattle.types.specs.Refusal.{number_of}
 use Rattle.types.specs.declared.table.Table.{Table}
 use Rattle.types.specs.declared.gate.Gate.{Gate}
 use Rattle.table.specs.Table.{padded, whole_table}
@@ -42,12 +42,12 @@ pub record Finds (t : Table) (k : ℕ) (ws : List ℤ) (th : ℤ) : Type 0 where
   pub vector : same_vector (run 100 (fresh t)).state.v (record { a = places ws; b = th }) ≡ true
 
 -- a sound open job that has made k corrections takes the budget, and refuses one more with the refusal
-pub record TakesAtMost (j : Job) (k budget : ℕ) (refusal : Refusal) : Type 0 where
+pub record TakesAtMost (j : Job) (k budget number : ℕ) : Type 0 where
   pub sound : is_sound j ≡ true
   pub stage : j.state.stage ≡ Open
   pub corrections : j.state.k ≡ k
   pub taken : carry_on j budget ≡ Ok (run budget j)
-  pub above : carry_on j (budget + 1) ≡ Err refusal
+  pub above : (e : Refusal) × (number_of e ≡ number) × (carry_on j (budget + 1) ≡ Err e)
 
 -- a job at K 950,000: since the mark, 425,712 corrections by row 0, a false row without true inputs, have brought b from −425,712 to 0
 abbrev pub late_job : Job
@@ -77,5 +77,5 @@ pub record MarkedCases : Type 0 where
   pub m6 : fresh (table 2 (0x06 ∷ [])) ≡ start_job (table 2 (0x06 ∷ [])) (once_each (0 ∷ 1 ∷ 2 ∷ 3 ∷ [])) Binate
   pub m7 : check_witness (table 4 (0x88 ∷ 0xF8 ∷ [])) (record { counts = once_each (3 ∷ 12 ∷ 5 ∷ 10 ∷ []) }) ≡ Ok true
   pub m8 : (gate_value gate003 35 ≡ Ok true) × (gate_value gate003 38 ≡ Ok false)
-  pub m9 : TakesAtMost (fresh (table 2 (0x08 ∷ []))) 0 100000 Refusal'.Budget × TakesAtMost late_job 950000 50000 Refusal'.Cap
+  pub m9 : TakesAtMost (fresh (table 2 (0x08 ∷ []))) 0 100000 10 × TakesAtMost late_job 950000 50000 11
   pub m10 : chow_parameters (table 3 (0xEA ∷ [])) ≡ Ok (places (pos 3 ∷ pos 1 ∷ pos 1 ∷ []))

@@ -13,7 +13,7 @@ use types::refusal::Refusal;
 fn check(bytes: &[u8]) -> Result<u32, Refusal>
     ensures { result ≡ check bytes.now }
 {
-    check_read(read(bytes)?)
+    check_read(read(bytes))
 }
 
 // The kind of a record, as `threshold_kind` says.
@@ -21,7 +21,7 @@ fn check(bytes: &[u8]) -> Result<u32, Refusal>
 fn kind(bytes: &[u8]) -> Result<u32, Refusal>
     ensures { result ≡ kind bytes.now }
 {
-    Ok(kind_read(read(bytes)?))
+    kind_read(read(bytes))
 }
 
 // The value on a row, as `threshold_value` says.
@@ -29,7 +29,7 @@ fn kind(bytes: &[u8]) -> Result<u32, Refusal>
 fn value_on(bytes: &[u8], row: u32) -> Result<u32, Refusal>
     ensures { result ≡ value_on bytes.now row }
 {
-    value_read(read(bytes)?, row)
+    value_read(read(bytes), row)
 }
 
 // Returns 1 if the gate of a kind 2 record realises its table, or the witness of a kind 3 record balances, and 0 if not. Refusals: 1 to 9 and 16

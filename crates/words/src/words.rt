@@ -9,6 +9,9 @@ use table::table::{byte_count, row_count, whole_table};
 use types::refusal::Refusal;
 use types::table::Table;
 
+// Too few words, of values or of cares.
+const FEW_WORDS: Refusal = Refusal::Words;
+
 // Returns a byte of a word, the lowest first.
 fn byte_of(word: u64, at: usize) -> u8
     requires { at < 8 }
@@ -55,7 +58,7 @@ pub fn from_words(inputs: u32, words: &[u64], out: &mut [u8]) -> Result<u32, Ref
     }
     let n = inputs as u8;
     if few_words(words, n) {
-        return Err(Refusal::Words);
+        return Err(FEW_WORDS);
     }
     put_table_record(whole_table(n, word_bytes(words, n)), out)
 }
@@ -70,10 +73,10 @@ pub fn from_cares(inputs: u32, words: &[u64], cares: &[u64], out: &mut [u8]) -> 
     }
     let n = inputs as u8;
     if few_words(words, n) {
-        return Err(Refusal::Words);
+        return Err(FEW_WORDS);
     }
     if few_words(cares, n) {
-        return Err(Refusal::Words);
+        return Err(FEW_WORDS);
     }
     let bytes = word_bytes(words, n);
     let cares = word_bytes(cares, n);

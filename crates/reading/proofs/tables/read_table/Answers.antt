@@ -7,7 +7,7 @@ use Rattle.codec.proofs.TableFieldLaws.{row_bits_clear, row_bits_within}
 use Rattle.reading.proofs.tables.read_table.Goals as goal
 
 pub read_row_bits-requires : goal.read_row_bits-requires
-read_row_bits-requires c = (omega arith, (number_next c.args.bytes.now c.args.at c.in_ok-inputs.inputs (sym c.in_ok-inputs.ensures)).1)
+read_row_bits-requires c = (omega arith, (number_next c.args.bytes.now _ c.in_ok-inputs.inputs (sym c.in_ok-inputs.ensures)).1)
 
 pub after_values-requires : goal.after_values-requires
 after_values-requires c =

@@ -3,7 +3,6 @@ use mathlib.Core.List.{List, [], ◌∷◌, ◌++◌}
 use Prim.Native.Nat.{ℕ, ◌≤◌}
 use native.Mathlib.Omega.{arith}
 use lib.ListN.{length}
-use Rattle.types.specs.Refusal.{number_of}
 use Rattle.text.specs.Text.{decimal, spaced, line_feed}
 use Rattle.reporting.specs.Lines.{line_room, refusal_line}
 use Rattle.text.proofs.FieldWriting.{Left, all_left, next_left}
@@ -29,7 +28,6 @@ at_position out position n room = all_left out 0 (refusal_line position n) (omeg
 pub returns-clause-put : goal.returns-clause-put
 returns-clause-put c =
     let a = c.args in
-    let number = number_of a.refusal in
-    let at_letter = next_left (decimal a.position) (from_letter number) (at_position a.out.now a.position number c.requires) c.put_decimal-here.ensures in
-    let at_number = next_left letter (spaced (decimal number) ++ line_feed) at_letter c.put_letter-here.ensures in
-    (next_left (spaced (decimal number)) line_feed at_number (rw c.number-number.ensures at c.put_number-here.ensures)).done c.put_byte.ensures
+    let at_letter = next_left (decimal a.position) (from_letter a.number) (at_position a.out.now a.position a.number c.requires) c.put_decimal-here.ensures in
+    let at_number = next_left letter (number a.number ++ line_feed) at_letter c.put_letter-here.ensures in
+    (next_left (number a.number) line_feed at_number c.put_number-here.ensures).done c.put_byte.ensures

@@ -1,20 +1,19 @@
--- `keys::free_bytes` meets its contract. Assumes nothing.
-use mathlib.Core.Path.{ap}
-use Prim.Native.Nat.{ℕ, ◌-◌, ◌^◌}
+-- `keys::free_bytes` meets its contract, by the bytes stored. Assumes nothing.
+use mathlib.Core.Path.{refl}
 use native.Mathlib.Omega.{arith}
 use borrow.Author.Rules.{rules}
-use lib.ListN.{get_or}
+use lib.ListN.{get_or, replicate}
 use mir.Syntax.{w8}
 use mir.Val.{Fits}
 use Rattle.numbers.proofs.TabulateLaws.{filled_none, filled_more}
-use Rattle.table.proofs.TableLaws.{rows_le}
+use Rattle.table.proofs.TableLaws.{bytes_le}
 use Rattle.table.proofs.RowLaws.{ByteArray}
-use Rattle.search.proofs.BitLaws.{unmade, not_at}
+use Rattle.search.proofs.BitLaws.{not_at}
 use Rattle.search.proofs.keys.free_bytes.Goals as goal
 use Rattle.search.proofs.keys.free_bytes.Goals.{Start}
 
-pub loop-byte-init : goal.loop-byte-init
-loop-byte-init c = filled_none _ _
+pub loop-at-init : goal.loop-at-init
+loop-at-init c = filled_none _ _
 
 cares_of : (c : Start) → ByteArray c.args.table.cares
 cares_of c = record {
@@ -22,15 +21,11 @@ cares_of c = record {
   fits = λ i l. let byte : Fits w8 (get_or c.args.table.cares i 0) = search rules in byte.fits;
 }
 
-pub loop-byte-preserved : goal.loop-byte-preserved
-loop-byte-preserved c =
-    let at = c.loop-byte.byte-index in
-    let cares = c.args.table.cares in
-    filled_more _ cares at (omega (arith, (cares_of (goal.at.loop-byte-preserved c).Start).size)) c.loop-byte.invariant
-    (ap (λ (x : ℕ). 2 ^ 8 - 1 - x) (unmade _ cares at c.loop-byte.invariant))
+pub loop-at-preserved : goal.loop-at-preserved
+loop-at-preserved c = filled_more _ (replicate 32 0) c.loop-at.at (omega (arith, c.byte_count-at-end.ensures, bytes_le c.requires)) c.loop-at.invariant refl
 
 pub returns : goal.returns
 returns c row l =
-    let few = rows_le {n = c.args.table.n} c.requires in
     let start = (goal.at.returns c).Start in
-    not_at c.args.table.cares c.loop-byte.byte-index (cares_of start) (omega arith) c.loop-byte.invariant row (omega arith)
+    let count = c.byte_count-at-end.ensures in
+    not_at (replicate 32 0) c.loop-at.at (cares_of start) (omega (arith, count, bytes_le c.requires)) c.loop-at.invariant row (omega (arith, count))

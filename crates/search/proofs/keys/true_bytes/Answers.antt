@@ -1,16 +1,14 @@
--- `keys::true_bytes` meets its contract. Assumes nothing.
-use mathlib.Core.Path.{ap}
-use Prim.Native.Nat.{ℕ}
+-- `keys::true_bytes` meets its contract, by the bytes stored. Assumes nothing.
+use mathlib.Core.Path.{refl}
 use native.Mathlib.Omega.{arith}
 use borrow.Author.Rules.{rules}
-use lib.Bits.{bit_and}
-use lib.ListN.{get_or}
+use lib.ListN.{get_or, replicate}
 use mir.Syntax.{w8}
 use mir.Val.{Fits}
 use Rattle.numbers.proofs.TabulateLaws.{filled_none, filled_more}
-use Rattle.table.proofs.TableLaws.{rows_le}
+use Rattle.table.proofs.TableLaws.{bytes_le}
 use Rattle.table.proofs.RowLaws.{ByteArray}
-use Rattle.search.proofs.BitLaws.{unmade, and_at}
+use Rattle.search.proofs.BitLaws.{and_at}
 use Rattle.search.proofs.keys.true_bytes.Goals as goal
 use Rattle.search.proofs.keys.true_bytes.Goals.{Start}
 
@@ -30,14 +28,10 @@ values_of c = record {
 }
 
 pub loop-at-preserved : goal.loop-at-preserved
-loop-at-preserved c =
-    let at = c.loop-at.at in
-    let cares = c.args.table.cares in
-    filled_more _ cares at (omega (arith, (cares_of (goal.at.loop-at-preserved c).Start).size)) c.loop-at.invariant
-    (ap (λ (x : ℕ). bit_and x (get_or c.args.table.bytes at 0)) (unmade _ cares at c.loop-at.invariant))
+loop-at-preserved c = filled_more _ (replicate 32 0) c.loop-at.at (omega (arith, c.byte_count-at-end.ensures, bytes_le c.requires)) c.loop-at.invariant refl
 
 pub returns : goal.returns
 returns c row l =
-    let few = rows_le {n = c.args.table.n} c.requires in
     let start = (goal.at.returns c).Start in
-    and_at c.args.table.cares c.loop-at.at (cares_of start) (values_of start) (omega arith) c.loop-at.invariant row (omega arith)
+    let count = c.byte_count-at-end.ensures in
+    and_at (replicate 32 0) c.loop-at.at (cares_of start) (values_of start) (omega (arith, count, bytes_le c.requires)) c.loop-at.invariant row (omega (arith, count))
