@@ -41,7 +41,7 @@ pub record Finds (t : Table) (k : ℕ) (ws : List ℤ) (th : ℤ) : Type 0 where
   pub corrections : (run 100 (fresh t)).state.k ≡ k
   pub vector : same_vector (run 100 (fresh t)).state.v (record { a = places ws; b = th }) ≡ true
 
--- a sound open job that has made k corrections takes the budget, and refuses one more with the refusal
+-- a sound open job that has made k corrections takes the budget, and refuses one more with the number
 pub record TakesAtMost (j : Job) (k budget number : ℕ) : Type 0 where
   pub sound : is_sound j ≡ true
   pub stage : j.state.stage ≡ Open
